@@ -1,8 +1,11 @@
 pub mod Arithmetic
+pub mod Copy
 pub mod Decoding
 pub mod Fetch
+pub mod Image
 pub mod Instruction
 pub mod Logged
 pub mod MachineForm
 pub mod Place
 pub mod Recent
+pub mod Sized
