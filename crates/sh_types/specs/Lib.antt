@@ -8,4 +8,5 @@ pub mod Logged
 pub mod MachineForm
 pub mod Place
 pub mod Recent
+pub mod Runnable
 pub mod Sized
