@@ -117,7 +117,8 @@ pub fn make_layout(
 pub fn cell_at(seed: &[u8; 32], number: u64, recent: &[u32]) -> u32
     requires number { 0 < number }
     requires recent { recent.now ≡ recent_of seed.now number }
-    ensures { result ≡ cell_of seed.now number }
+    ensures is { result ≡ cell_of seed.now number }
+    ensures recent { recent_of seed.now (number + 1) ≡ last_64 (recent.now ++ result ∷ []) }
 {
     let mut rng = generator(seed, number);
     let word = draw(&mut rng);
