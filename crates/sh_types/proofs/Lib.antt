@@ -1,2 +1,6 @@
+pub mod FormWords
+pub mod MachineWords
+pub mod OneInstr
 pub mod Placing
+pub mod Reading
 pub mod Rows
