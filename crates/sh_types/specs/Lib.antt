@@ -1,6 +1,7 @@
 pub mod Arithmetic
 pub mod Copy
 pub mod Decoding
+pub mod Elf
 pub mod Fetch
 pub mod Image
 pub mod Instruction
@@ -10,3 +11,4 @@ pub mod Place
 pub mod Recent
 pub mod Runnable
 pub mod Sized
+pub mod Thin

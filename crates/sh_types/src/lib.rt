@@ -3,6 +3,7 @@
 
 mod bytes;
 mod code;
+mod elf;
 mod fetching;
 mod instructions;
 mod items;
@@ -15,6 +16,7 @@ pub use bytes::Bytes;
 pub use code::{
     CodeRef, FrameState, FrameTable, Function, Image, Pair, RaPlace, Region, Rule, Site,
 };
+pub use elf::{Head, Program, RawSymbol, Segment};
 pub use fetching::{CopyFetch, Fetch, FetchLog, Fetched};
 pub use instructions::{Instr, Op, Reservation, XInstr};
 pub use items::Items;
