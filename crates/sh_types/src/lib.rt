@@ -23,4 +23,4 @@ pub use items::Items;
 pub use laws::places_are_inverse;
 pub use layouts::{CodeCopy, Layout, place, whose};
 pub use names::{Name, SymbolName};
-pub use runs::{End, Event, Hart, NoMemory, Trap};
+pub use runs::{End, Event, Hart, NoMemory, Stored, Trap};
