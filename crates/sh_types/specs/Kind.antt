@@ -14,13 +14,13 @@ use Rattle.sh_types.specs.declared.instructions.Op.TheVariants.{Jalr}
 use Rattle.sh_types.specs.declared.instructions.XInstr.{XInstr}
 use Rattle.sh_types.specs.declared.instructions.XInstr.TheVariants.{Lit, Sra, Lra, Tjalr}
 use Rattle.sh_types.specs.declared.layouts.Layout.{Layout}
-use Rattle.sh_types.specs.Arithmetic.{modulo, is_arithmetic}
+use Rattle.sh_types.specs.Arithmetic.{is_arithmetic}
 use Rattle.sh_types.specs.Copy.{saves, restores, literal_number}
 use Rattle.sh_types.specs.Decoding.{decoded, made}
 use Rattle.sh_types.specs.MachineForm.{decoded_x}
 use Rattle.sh_types.specs.Image.{sizes_of, word_at, site_at, row_at}
 use Rattle.sh_types.specs.Instruction.{row_of}
-use Rattle.sh_types.specs.Need.{plus_imm}
+use Rattle.sh_types.specs.Need.{number_of_imm, plus_imm}
 use Rattle.sh_types.specs.Place.{pair, place_of}
 
 pub data Kind (T : Type 0) : Type 0 where
@@ -60,7 +60,7 @@ is_system i above = (opcode_of i.op == 0x73) && ((row_of i.op).above == above)
 -- the kinds that name no place in the code
 unfoldable pub plain_kind : {T : Type 0} → Instr → Kind T
 plain_kind i =
-    if opcode_of i.op == 0x37 then Sets i.rd (modulo i.imm)
+    if opcode_of i.op == 0x37 then Sets i.rd (number_of_imm i.imm)
     else if is_arithmetic i.op then Computes i
     else if opcode_of i.op == 0x03 then Loads i
     else if opcode_of i.op == 0x23 then Stores i

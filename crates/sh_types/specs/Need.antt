@@ -2,9 +2,10 @@
 -- No machine has a part in it. An access is aligned (RISC-V Unprivileged ISA, "Load and Store Instructions"; that
 -- every misaligned one traps is this project's own), so it touches one aligned word of eight bytes at most.
 use Rattle.std.specs.Prelude.{ℕ, ℤ, ◌+◌, ◌*◌, ◌/◌, ◌%◌, ◌^◌, ◌==◌, Bool, Option, List, slice_set, if◌then◌else◌}
+use Rattle.std.specs.Int.{cast_unsigned}
+use mir.Syntax.{w64}
 use Rattle.sh_types.specs.declared.runs.Stored.{Stored}
 use Rattle.sh_types.specs.declared.runs.Trap.{Trap}
-use Rattle.sh_types.specs.Arithmetic.{modulo}
 
 -- How an instruction of either machine comes out. Only the first two change anything: the hart alone, or the hart
 -- and one word, with the range of bytes that was stored.
@@ -37,9 +38,13 @@ words_after Quits m = m
 words_after (Traps k v) m = m
 words_after Leaks m = m
 
+-- an immediate as a number of 64 bits
+abbrev pub number_of_imm : ℤ → ℕ
+number_of_imm imm = cast_unsigned w64 imm
+
 -- an address and an immediate, modulo 2 ^ 64
 abbrev pub plus_imm : ℕ → ℤ → ℕ
-plus_imm a imm = (a + modulo imm) % 2 ^ 64
+plus_imm a imm = (a + number_of_imm imm) % 2 ^ 64
 
 -- register x0 stays 0 (RISC-V Unprivileged ISA, "Programmers' Model for Base Integer ISA")
 abbrev pub write_reg : List ℕ → ℕ → ℕ → List ℕ

@@ -5,8 +5,9 @@ use Rattle.std.specs.Prelude.{ℕ, ◌==◌, ◌&&◌, ◌||◌, Bool, if◌then
 use Rattle.sh_types.specs.declared.instructions.Instr.{Instr}
 use Rattle.sh_types.specs.declared.instructions.Op.{Op}
 use Rattle.sh_types.specs.declared.instructions.Op.TheVariants.{Lb, Lbu, Lh, Lhu, Lw, Lwu, Sb, Sh, Sw}
-use Rattle.sh_types.specs.Arithmetic.{alu_of, modulo}
+use Rattle.sh_types.specs.Arithmetic.{alu_of}
 use Rattle.sh_types.specs.Instruction.{row_of}
+use Rattle.sh_types.specs.Need.{number_of_imm}
 
 -- the operation of two registers
 unfoldable pub is_register : Op → Bool
@@ -22,7 +23,7 @@ both_ra i = (i.rs1 == 1) || (i.rs2 == 1)
 
 -- what an arithmetic instruction makes of the numbers in rs1 and rs2
 unfoldable pub computed : Instr → ℕ → ℕ → ℕ
-computed i a b = alu_of i.op a (if is_register i.op then b else modulo i.imm)
+computed i a b = alu_of i.op a (if is_register i.op then b else number_of_imm i.imm)
 
 -- how many bytes a load or a store touches
 unfoldable pub width_of : Op → ℕ
