@@ -1,0 +1,5 @@
+pub mod Agreeing
+pub mod Copying
+pub mod Keeping
+pub mod Placing
+pub mod Ciphers
