@@ -1,5 +1,9 @@
 pub mod Agreeing
+pub mod Ciphers
 pub mod Copying
 pub mod Keeping
+pub mod Lists
+pub mod Moving
 pub mod Placing
-pub mod Ciphers
+pub mod Stepping
+pub mod Whole
