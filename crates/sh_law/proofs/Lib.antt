@@ -1,1 +1,3 @@
+pub mod Ciphers
 pub mod Copying
+pub mod Keeping
