@@ -1,3 +1,5 @@
+pub mod Agreeing
 pub mod Ciphers
 pub mod Copying
 pub mod Keeping
+pub mod Placing
