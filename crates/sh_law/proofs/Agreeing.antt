@@ -254,7 +254,7 @@ module _ (cipher : IsCipher) (o : Setting) (fi : IsSetting o) (on : ℕ → Layo
   pub kind_is : kind_there (literal_in o.image) (o.layout_at h.layout) h.pc (copied o.image (o.layout_at h.layout) h.pc) ≡ moved_kind (o.layout_at h.layout) (kind_at o.image t.at)
   kind_is =
       ap (λ a. kind_there (literal_in o.image) (o.layout_at h.layout) a (copied o.image (o.layout_at h.layout) a)) r.pc
-      ∙ kind_of_copy o.image fi.image (o.layout_at h.layout) (fi.placed h.layout) (fi.sizes h.layout) t.at so.row so.row_is
+      ∙ kind_of_copy o.image (o.layout_at h.layout) t.at so.row fi.image (fi.placed h.layout) (fi.sizes h.layout) so.row_is
 
   pub one_agrees : Agrees o on h t (moved_of o h m) (answered (thread_needs o.image t) u)
   unfolding hart_needs thread_needs

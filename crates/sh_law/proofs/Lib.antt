@@ -5,5 +5,6 @@ pub mod Keeping
 pub mod Lists
 pub mod Moving
 pub mod Placing
+pub mod Reading
 pub mod Stepping
 pub mod Whole

@@ -1,4 +1,4 @@
--- What an instruction of one hart keeps of all chains.
+-- What an instruction of one hart keeps of all chains. This project's own.
 use Rattle.std.specs.Prelude.{◌≡◌, ◌≢◌, ◌<◌, ◌^◌, ℕ}
 use Rattle.sh_types.specs.Cipher.{seal, unseal}
 use Rattle.sh_types.specs.declared.code.Image.{Image}
@@ -10,6 +10,7 @@ use Rattle.sh_types.specs.Unmoved.{Thread, Cell, set_thread}
 abbrev pub IsOwn : ℕ → Cell → Cell → Type 0
 IsOwn n before after = (k : ℕ) → k ≢ n → his k after ≡ his k before
 
+-- the hart's chain is sound after an outcome, and the word that it leaves is no other hart's
 abbrev pub OutSound : Image → Thread → (ℕ → Cell) → Outcome Thread Cell → Type 0
 OutSound image t u (Goes t') = Sound image t' u
 OutSound image t u (Puts t' w c stored) = Sound image t' (set_at u w c) × IsOwn t.number (u w) c
@@ -18,6 +19,6 @@ OutSound image t u Quits = Unit {0}
 OutSound image t u (Traps k v) = Unit {0}
 OutSound image t u Leaks = Unit {0}
 
--- what is needed of the cipher
+-- what the machines need of the cipher
 pub record IsCipher : Type 0 where
   pub opens : (k s a : ℕ) → k < 2 ^ 64 → a < 2 ^ 64 → unseal k s (seal k s a) ≡ a

@@ -1,3 +1,4 @@
 pub mod Agrees
 pub mod Keeps
+pub mod Reach
 pub mod Sound
