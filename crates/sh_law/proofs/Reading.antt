@@ -60,10 +60,7 @@ opens_as on n w d (Return k r) s = by (k == n) refl
     by false e = ap (is_his n) s.0 ∙ e
 
 moved_restores : (l : Layout) (k : Kind Pair) (imm : ℤ) → moved_kind l k ≡ Restores imm → k ≡ Restores imm
-moved_restores l (Restores j) imm e = ap Restores (same j imm e)
-  where
-    same : (i j : ℤ) → Restores {T = ℕ} i ≡ Restores j → i ≡ j
-    same i j e = cc
+moved_restores l (Restores j) imm e = let same : j ≡ imm = cc in ap Restores same
 moved_restores l (Sets rd v) imm e = absurd (cc)
 moved_restores l (Computes i) imm e = absurd (cc)
 moved_restores l Passes imm e = absurd (cc)
@@ -131,7 +128,7 @@ module _ (o : Setting) (fi : IsSetting o) (s : Shuffled) (u : Unmoved) (n : ℕ)
       let t = q.thread in
       let there : kind_there (literal_in o.image) (o.layout_at h.layout) h.pc (copied o.image (o.layout_at h.layout) h.pc) ≡ moved_kind (o.layout_at h.layout) (kind_at o.image t.at) =
           ap (λ a. kind_there (literal_in o.image) (o.layout_at h.layout) a (copied o.image (o.layout_at h.layout) a)) runs.pc
-          ∙ kind_of_copy o.image fi.image (o.layout_at h.layout) (fi.placed h.layout) (fi.sizes h.layout) t.at sound.row sound.row_is in
+          ∙ kind_of_copy o.image (o.layout_at h.layout) t.at sound.row fi.image (fi.placed h.layout) (fi.sizes h.layout) sound.row_is in
       let kind : kind_at o.image t.at ≡ Restores imm = moved_restores (o.layout_at h.layout) (kind_at o.image t.at) imm (sym there ∙ k) in
       let f : Restored o.image t.at sound.row imm = subst (λ x. Follows o.image t.at sound.row x) kind (fi.image.frames.follows t.at sound.row sound.row_is) in
       let m = meets o.image t u.cells sound imm f in
