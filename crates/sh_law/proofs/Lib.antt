@@ -1,2 +1,3 @@
 pub mod Ciphers
 pub mod Keeping
+pub mod Legal

@@ -1,6 +1,10 @@
 //! The laws of the two machines, as clauses of functions that do nothing.
 #![tactic(auto)]
 
+mod examples;
+
+pub use examples::is_met;
+
 ghost use Rattle.std.specs.Prelude.{◌≡◌, ℕ, length};
 ghost use Rattle.sh_types.specs.declared.code.Image.{Image};
 ghost use Rattle.sh_types.specs.Chain.{Sound};
