@@ -1,3 +1,4 @@
 pub mod Ciphers
 pub mod Keeping
 pub mod Legal
+pub mod Premises

@@ -1,6 +1,6 @@
 -- A small image, its layouts and a list of events. Words are those of the RISC-V Unprivileged ISA; what each says
 -- stands beside it. This project's own.
-use Rattle.std.specs.Prelude.{ℕ, zero, suc, ◌+◌, ◌*◌, ◌%◌, ◌^◌, Bool, true, false, Option, Some, None, List, [], ◌∷◌, replicate}
+use Rattle.std.specs.Prelude.{◌≡◌, ℕ, zero, suc, ◌+◌, ◌*◌, ◌%◌, ◌^◌, Bool, true, false, Option, Some, None, List, [], ◌∷◌, replicate}
 use Rattle.sh_types.specs.declared.code.FrameState.{FrameState}
 use Rattle.sh_types.specs.declared.code.FrameTable.{FrameTable}
 use Rattle.sh_types.specs.declared.code.Function.{Function}
@@ -14,7 +14,7 @@ use Rattle.sh_types.specs.declared.runs.Event.{Event}
 use Rattle.sh_types.specs.declared.runs.Event.TheVariants.{Run, Migrate, Publish, Erase}
 use Rattle.sh_types.specs.Frame.{frame}
 use Rattle.sh_types.specs.Place.{cell_start}
-use Rattle.sh_types.specs.Shuffled.{Setting}
+use Rattle.sh_types.specs.Shuffled.{Owned, Setting}
 
 abbrev pub function : ℕ → ℕ → Function
 function home size = record { home = home; size = size; name = [] }
@@ -28,13 +28,13 @@ table rows = record { rows = rows }
 -- the entry function calls the other one and returns
 abbrev pub entry_words : List ℕ
 entry_words =
-    0xff010113 -- addi sp,sp,-16
-    ∷ 0x00113423 -- sd ra,8(sp)
-    ∷ 0x0ff0000f -- fence
-    ∷ 0x010000ef -- jal ra,16
-    ∷ 0x00813083 -- ld ra,8(sp)
-    ∷ 0x01010113 -- addi sp,sp,16
-    ∷ 0x00008067 -- ret
+    0xff010113  -- addi sp,sp,-16
+    ∷ 0x00113423  -- sd ra,8(sp)
+    ∷ 0x0ff0000f  -- fence
+    ∷ 0x010000ef  -- jal ra,16
+    ∷ 0x00813083  -- ld ra,8(sp)
+    ∷ 0x01010113  -- addi sp,sp,16
+    ∷ 0x00008067  -- ret
     ∷ []
 
 abbrev pub entry_sites : List Site
@@ -49,19 +49,19 @@ entry_rows =
 -- the other copies a byte to the stack, and writes it out from there
 abbrev pub other_words : List ℕ
 other_words =
-    0xff010113 -- addi sp,sp,-16
-    ∷ 0x00113423 -- sd ra,8(sp)
-    ∷ 0x000105b7 -- lui a1,16
-    ∷ 0x0005c503 -- lbu a0,0(a1)
-    ∷ 0x00a10023 -- sb a0,0(sp)
-    ∷ 0x00100513 -- addi a0,x0,1
-    ∷ 0x00010593 -- addi a1,sp,0
-    ∷ 0x00100613 -- addi a2,x0,1
-    ∷ 0x04000893 -- addi a7,x0,64
-    ∷ 0x00000073 -- ecall
-    ∷ 0x00813083 -- ld ra,8(sp)
-    ∷ 0x01010113 -- addi sp,sp,16
-    ∷ 0x00008067 -- ret
+    0xff010113  -- addi sp,sp,-16
+    ∷ 0x00113423  -- sd ra,8(sp)
+    ∷ 0x000105b7  -- lui a1,16
+    ∷ 0x0005c503  -- lbu a0,0(a1)
+    ∷ 0x00a10023  -- sb a0,0(sp)
+    ∷ 0x00100513  -- addi a0,x0,1
+    ∷ 0x00010593  -- addi a1,sp,0
+    ∷ 0x00100613  -- addi a2,x0,1
+    ∷ 0x04000893  -- addi a7,x0,64
+    ∷ 0x00000073  -- ecall
+    ∷ 0x00813083  -- ld ra,8(sp)
+    ∷ 0x01010113  -- addi sp,sp,16
+    ∷ 0x00008067  -- ret
     ∷ []
 
 abbrev pub other_sites : List Site
@@ -112,3 +112,7 @@ example_setting = record { image = example; layout_at = example_layout }
 -- The hart moves twice, with one return word on its stack and with two.
 abbrev pub example_events : List Event
 example_events = Run 0 3 ∷ Publish 2 ∷ Migrate 0 ∷ Erase 1 ∷ Run 0 6 ∷ Publish 3 ∷ Migrate 0 ∷ Run 0 11 ∷ []
+
+-- the aligned word is a return word of hart 0
+abbrev pub IsOwned : (ℕ → Owned) → ℕ → Type 0
+IsOwned m w = (m w).owner ≡ Some 0

@@ -3,8 +3,6 @@
 
 mod examples;
 
-pub use examples::is_met;
-
 ghost use Rattle.std.specs.Prelude.{◌≡◌, ℕ, length};
 ghost use Rattle.sh_types.specs.declared.code.Image.{Image};
 ghost use Rattle.sh_types.specs.Chain.{Sound};
@@ -12,6 +10,8 @@ ghost use Rattle.sh_types.specs.Fine.{IsFine};
 ghost use Rattle.sh_types.specs.Need.{answered};
 ghost use Rattle.sh_types.specs.Unmoved.{Thread, Cell, thread_needs};
 ghost use Rattle.sh_law.specs.Keeps.{OutSound};
+
+pub use examples::is_met;
 
 /// In an image that is fine, an instruction of a hart keeps the chain of its frames sound, and touches no return
 /// word of another hart.
