@@ -135,6 +135,30 @@ module _ (o : Setting) (fi : IsSetting o) (s : Shuffled) (u : Unmoved) (n : ℕ)
       let c : CellStands (layouts_of o s.harts) (plus_imm (slice_index t.regs 2) imm / 8) (s.words (plus_imm (slice_index t.regs 2) imm / 8)) (Return t.number m.0) = subst (λ x. CellStands (layouts_of o s.harts) (plus_imm (slice_index t.regs 2) imm / 8) (s.words (plus_imm (slice_index t.regs 2) imm / 8)) x) m.1 (st.stands.words (plus_imm (slice_index t.regs 2) imm / 8)) in
       ap (λ x. (s.words (plus_imm x imm / 8)).owner) (runs.regs 2 (λ _. omega arith)) ∙ c.0 ∙ ap Some (sym q.stands.number)
 
+-- ---- who owns words
+
+-- a live hart is there
+abbrev pub IsThere : List Hart → ℕ → Type 0
+IsThere hs n = (h : Hart) × (slice_get hs n ≡ Some h) × (h.live ≡ true)
+
+pub owner_lives : (o : Setting) (s : Shuffled) (u : Unmoved) → Stays o s u → (w n : ℕ) → (s.words w).owner ≡ Some n → (h : Hart) × (slice_get s.harts n ≡ Some h) × (h.live ≡ true)
+owner_lives o s u st w n e = by (s.words w) (u.cells w) refl e (st.stands.words w)
+  where
+    at : (x : Option Hart) (t : Thread) → slice_get s.harts n ≡ x → t.live ≡ true → GetStands o x (Some t) → IsThere s.harts n
+    at None t ex l g = absurd g
+    at (Some h) t ex l g = (h, ex, g.live ∙ l)
+
+    there : (t : Thread) → slice_get u.threads n ≡ Some t → t.live ≡ true → IsThere s.harts n
+    there t et l = at (slice_get s.harts n) t refl l (subst (λ y. GetStands o (slice_get s.harts n) y) et (get_stands o s.harts u.threads n st.stands.harts))
+
+    by : (d : Owned) (c : Cell) → u.cells w ≡ c → d.owner ≡ Some n → CellStands (layouts_of o s.harts) w d c → IsThere s.harts n
+    by d (Number v) f own stands = let clash = ap (λ (x : Owned). x.owner) stands in absurd (cc)
+    by d (Return k r) f own stands =
+        let a = stands.0 in
+        let q : k ≡ n = cc in
+        let old = st.owned w n r (f ∙ ap (λ j. Return j r) q) in
+        there old.0 old.1 old.2
+
 -- ---- two runs with the same instructions
 
 same_run : (i j : Image) (ms ns : List ℕ) → i ≡ j → ms ≡ ns → unmoved_run i ms ≡ unmoved_run j ns

@@ -1,10 +1,13 @@
 //! The laws of the two machines, as clauses of functions that do nothing.
 #![tactic(auto)]
 
+mod examples;
 mod runs;
 
+pub use examples::is_met;
 pub use runs::{
-    harts_are_placed, no_live_hart_on_an_erased_layout, restores_meet_their_own, seeds_do_not_matter, states_stand,
+    harts_are_placed, instructions_are_counted, no_live_hart_on_an_erased_layout, owners_are_live,
+    restores_meet_their_own, seeds_do_not_matter, states_stand,
 };
 
 ghost use Rattle.std.specs.Prelude.{◌≡◌, ℕ, Some, length};

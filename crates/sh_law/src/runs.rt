@@ -1,6 +1,6 @@
 //! What holds after every list of events that is legal in a setting: an image that is fine, and a well placed layout
 //! of its functions for each number.
-ghost use Rattle.std.specs.Prelude.{◌≡◌, ◌≢◌, ℕ, ℤ, ◌/◌, List, length, Some, true, slice_get, slice_index};
+ghost use Rattle.std.specs.Prelude.{◌≡◌, ℕ, ℤ, ◌/◌, ◌<◌, ◌≤◌, List, length, Some, true, slice_get, slice_index};
 ghost use Rattle.sh_types.specs.declared.runs.Event.{Event};
 ghost use Rattle.sh_types.specs.declared.runs.Hart.{Hart};
 ghost use Rattle.sh_types.specs.Copy.{copied};
@@ -43,4 +43,16 @@ pub fn harts_are_placed()
 /// Where the next instruction of a live hart is a restore, it meets a return word of that hart.
 pub fn restores_meet_their_own()
     ensures { (o : Setting) (events : List Event) (n : ℕ) (h : Hart) (imm : ℤ) → IsSetting o → IsLegalIn o events → slice_get (state_after o events).harts n ≡ Some h → h.live ≡ true → kind_there (literal_in o.image) (o.layout_at h.layout) h.pc (copied o.image (o.layout_at h.layout) h.pc) ≡ Restores imm → ((state_after o events).words (plus_imm (slice_index h.regs 2) imm / 8)).owner ≡ Some h.number }
+{}
+
+/// Each instruction is counted, and there is at least one hart and at most 64, as many as a layout has keys.
+pub fn instructions_are_counted()
+    ensures count { (o : Setting) (events : List Event) → IsLegalIn o events → (state_after o events).count ≡ length (written events) }
+    ensures some { (o : Setting) (events : List Event) → IsLegalIn o events → 0 < length (state_after o events).harts }
+    ensures few { (o : Setting) (events : List Event) → IsLegalIn o events → length (state_after o events).harts ≤ 64 }
+{}
+
+/// A word that has an owner is a live hart's: a hart that ended owns no word.
+pub fn owners_are_live()
+    ensures { (o : Setting) (events : List Event) (w n : ℕ) → IsSetting o → IsLegalIn o events → ((state_after o events).words w).owner ≡ Some n → (h : Hart) × (slice_get (state_after o events).harts n ≡ Some h) × (h.live ≡ true) }
 {}
