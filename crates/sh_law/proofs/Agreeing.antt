@@ -1,12 +1,11 @@
 -- One instruction of both machines, by its kind.
-use Rattle.std.proofs.Common.{◌≡◌, ◌≢◌, ℕ, ℤ, zero, suc, ◌+◌, ◌*◌, ◌/◌, ◌%◌, ◌^◌, ◌<◌, ◌≤◌, Bool, true, false, Option, Some, None, List, length, refl, sym, ap, ◌∙◌, subst, arith, get_or-set_same, get_or-set_other}
+use Rattle.std.proofs.Common.{◌≡◌, ◌≢◌, ℕ, zero, suc, ◌+◌, ◌*◌, ◌/◌, ◌%◌, ◌^◌, ◌<◌, ◌≤◌, Bool, true, false, Option, Some, None, List, length, refl, sym, ap, ◌∙◌, subst, arith, get_or-set_same, get_or-set_other}
 use Rattle.std.specs.Prelude.{slice_index, slice_set, ◌&&◌, ◌||◌, ◌==◌, if◌then◌else◌}
 use Rattle.std.proofs.Math.ListN.{length-set}
 use Rattle.std.proofs.lemmas.Bool.Decides.{nat_tests}
 use Rattle.std.proofs.lemmas.Grind.{common_steps}
 use Rattle.sh_types.specs.declared.code.CodeRef.{CodeRef}
 use Rattle.sh_types.specs.declared.code.CodeRef.TheVariants.{Root, At}
-use Rattle.sh_types.specs.declared.code.Image.{Image}
 use Rattle.sh_types.specs.declared.code.Pair.{Pair}
 use Rattle.sh_types.specs.declared.instructions.Instr.{Instr}
 use Rattle.sh_types.specs.declared.layouts.Layout.{Layout}
@@ -21,17 +20,17 @@ use Rattle.sh_types.specs.Fine.{IsSetting}
 use Rattle.sh_types.specs.Frame.{Follows}
 use Rattle.sh_types.specs.Kind.{Kind, Sets, Computes, Passes, Loads, Stores, Atomics, Saves, Restores, CallsTo, JumpsTo, Branches, Through, GoesBack, Asks, Breaks, Illegal, Past, kind_at, moved_kind}
 use Rattle.sh_types.specs.Memory.{readable, writable}
-use Rattle.sh_types.specs.Need.{Outcome, Goes, Puts, Calls, Quits, Traps, Leaks, Need, Makes, Touches, answered, plus_imm, touching, part_of, with_part, stored_at}
+use Rattle.sh_types.specs.Need.{Outcome, Goes, Quits, Traps, Leaks, Need, Makes, Touches, answered, plus_imm, touching, part_of, with_part}
 use Rattle.sh_types.specs.Operands.{reads_ra, both_ra, computed, width_of, is_register}
-use Rattle.sh_types.specs.Place.{place_of, whose_of}
+use Rattle.sh_types.specs.Place.{place_of}
 use Rattle.sh_types.specs.Shuffled.{Setting, Owned, owned, goes_on, steps_on, set_hart, load_owned, store_owned, key_of, save_owned, take_owned, returns_to, hart_does, hart_needs, kind_there, literal_in, moved_of}
 use Rattle.sh_types.specs.StandsFor.{ref_place, RaIs, RunsAs, HartStands, CellStands, WordsStand}
 use Rattle.sh_types.specs.Unmoved.{Thread, Cell, Number, Return, is_return, next_of, goes, steps, set_thread, load_cell, store_cell, save_cell, take_cell, save_by, back_to, thread_does, thread_needs}
-use Rattle.sh_law.specs.Agrees.{Both, BothPut, SameCall, Agrees}
+use Rattle.sh_law.specs.Agrees.{Both, Agrees}
 use Rattle.sh_law.specs.Keeps.{IsCipher}
 use Rattle.sh_law.proofs.Copying.{kind_of_copy}
-use Rattle.sh_law.proofs.Keeping.{pair_of, ra_pair, saves_marked, meets}
-use Rattle.sh_law.proofs.Placing.{bounds, place_small, whose_there}
+use Rattle.sh_law.proofs.Keeping.{ra_pair, meets}
+use Rattle.sh_law.proofs.Placing.{bounds, place_small}
 
 pub set_alike : (xs ys : List ℕ) (r v i : ℕ) → length xs ≡ length ys → (i ≢ r → slice_index xs i ≡ slice_index ys i) → slice_index (slice_set xs r v) i ≡ slice_index (slice_set ys r v) i
 set_alike xs ys r v i e h = grind (arith, common_steps)
@@ -179,9 +178,6 @@ module _ (cipher : IsCipher) (o : Setting) (fi : IsSetting o) (on : ℕ → Layo
 
   -- ---- saves and returns, by ra
 
-  save_need : ℕ → Need Hart Owned
-  save_need a = touching (writable o.image.regions) 8 trap.Misaligned trap.Store a (λ c. save_owned (o.layout_at h.layout) h a c.owner)
-
   saves_do : (a : ℕ) (c : Option CodeRef) → h.marked ≡ is_return c → RaIs (o.layout_at h.layout) (slice_index h.regs 1) c → RaFine o.image c → Agrees o on h t (answered (if h.marked then touching (writable o.image.regions) 8 trap.Misaligned trap.Store a (λ c. save_owned (o.layout_at h.layout) h a c.owner) else Makes (Traps trap.Illegal 0)) m) (answered (save_by (writable o.image.regions) t a c) u)
   saves_do a None mk is f = subst (λ b. Agrees o on h t (answered (if b then touching (writable o.image.regions) 8 trap.Misaligned trap.Store a (λ c. save_owned (o.layout_at h.layout) h a c.owner) else Makes (Traps trap.Illegal 0)) m) (Traps trap.Illegal 0)) (sym mk) (refl, refl)
   saves_do a (Some x) mk is f =
@@ -205,23 +201,23 @@ module _ (cipher : IsCipher) (o : Setting) (fi : IsSetting o) (on : ℕ → Layo
   does_agree (Sets rd v) e f = sets rd v
   does_agree (Computes i) e f =
       leak (reads_ra i) _ _ (λ q.
-        subst (λ x. Both o h t (set_hart h i.rd x) (set_thread t i.rd (computed i (slice_index t.regs i.rs1) (slice_index t.regs i.rs2))))
-        (sym (same_computed i _ _ _ _ (r.regs i.rs1 (reads_first i (is_return t.ra) q)) (λ x. r.regs i.rs2 (reads_second i (is_return t.ra) q x))))
-        (sets i.rd (computed i (slice_index t.regs i.rs1) (slice_index t.regs i.rs2))))
+      subst (λ x. Both o h t (set_hart h i.rd x) (set_thread t i.rd (computed i (slice_index t.regs i.rs1) (slice_index t.regs i.rs2))))
+      (sym (same_computed i _ _ _ _ (r.regs i.rs1 (reads_first i (is_return t.ra) q)) (λ x. r.regs i.rs2 (reads_second i (is_return t.ra) q x))))
+      (sets i.rd (computed i (slice_index t.regs i.rs1) (slice_index t.regs i.rs2))))
   does_agree Passes e f = next_both
   does_agree (Loads i) e f =
       leak (i.rs1 == 1) _ _ (λ q.
-        subst (λ x. Agrees o on h t (answered (touching (readable o.image.regions) (width_of i.op) trap.Misaligned trap.Load (plus_imm x i.imm) (λ c. load_owned h i (plus_imm x i.imm) c.value c.owner)) m) (answered (touching (readable o.image.regions) (width_of i.op) trap.Misaligned trap.Load (plus_imm (slice_index t.regs i.rs1) i.imm) (λ c. load_cell t i (plus_imm (slice_index t.regs i.rs1) i.imm) c)) u))
-        (sym (r.regs i.rs1 (only_free i.rs1 (is_return t.ra) q)))
-        (load_at i (plus_imm (slice_index t.regs i.rs1) i.imm)))
+      subst (λ x. Agrees o on h t (answered (touching (readable o.image.regions) (width_of i.op) trap.Misaligned trap.Load (plus_imm x i.imm) (λ c. load_owned h i (plus_imm x i.imm) c.value c.owner)) m) (answered (touching (readable o.image.regions) (width_of i.op) trap.Misaligned trap.Load (plus_imm (slice_index t.regs i.rs1) i.imm) (λ c. load_cell t i (plus_imm (slice_index t.regs i.rs1) i.imm) c)) u))
+      (sym (r.regs i.rs1 (only_free i.rs1 (is_return t.ra) q)))
+      (load_at i (plus_imm (slice_index t.regs i.rs1) i.imm)))
     where
       load_at : (i : Instr) (a : ℕ) → Agrees o on h t (answered (touching (readable o.image.regions) (width_of i.op) trap.Misaligned trap.Load a (λ c. load_owned h i a c.value c.owner)) m) (answered (touching (readable o.image.regions) (width_of i.op) trap.Misaligned trap.Load a (λ c. load_cell t i a c)) u)
       load_at i a = touch (readable o.image.regions) (width_of i.op) trap.Misaligned trap.Load a (λ c. load_owned h i a c.value c.owner) (λ c. load_cell t i a c) (loads i a (a / 8) (m (a / 8)) (u (a / 8)) (ws (a / 8)))
   does_agree (Stores i) e f =
       leak (both_ra i) _ _ (λ q.
-        subst (λ x. Agrees o on h t (answered (touching (writable o.image.regions) (width_of i.op) trap.Misaligned trap.Store (plus_imm x i.imm) (λ c. store_owned h (plus_imm x i.imm) (width_of i.op) (slice_index h.regs i.rs2) c.value c.owner)) m) (answered (touching (writable o.image.regions) (width_of i.op) trap.Misaligned trap.Store (plus_imm (slice_index t.regs i.rs1) i.imm) (λ c. store_cell t (plus_imm (slice_index t.regs i.rs1) i.imm) (width_of i.op) (slice_index t.regs i.rs2) c)) u))
-        (sym (r.regs i.rs1 (first_free i.rs1 (i.rs2 == 1) (is_return t.ra) q)))
-        (store_at i (plus_imm (slice_index t.regs i.rs1) i.imm) (r.regs i.rs2 (second_free (i.rs1 == 1) i.rs2 (is_return t.ra) q))))
+      subst (λ x. Agrees o on h t (answered (touching (writable o.image.regions) (width_of i.op) trap.Misaligned trap.Store (plus_imm x i.imm) (λ c. store_owned h (plus_imm x i.imm) (width_of i.op) (slice_index h.regs i.rs2) c.value c.owner)) m) (answered (touching (writable o.image.regions) (width_of i.op) trap.Misaligned trap.Store (plus_imm (slice_index t.regs i.rs1) i.imm) (λ c. store_cell t (plus_imm (slice_index t.regs i.rs1) i.imm) (width_of i.op) (slice_index t.regs i.rs2) c)) u))
+      (sym (r.regs i.rs1 (first_free i.rs1 (i.rs2 == 1) (is_return t.ra) q)))
+      (store_at i (plus_imm (slice_index t.regs i.rs1) i.imm) (r.regs i.rs2 (second_free (i.rs1 == 1) i.rs2 (is_return t.ra) q))))
     where
       store_at : (i : Instr) (a : ℕ) → slice_index h.regs i.rs2 ≡ slice_index t.regs i.rs2 → Agrees o on h t (answered (touching (writable o.image.regions) (width_of i.op) trap.Misaligned trap.Store a (λ c. store_owned h a (width_of i.op) (slice_index h.regs i.rs2) c.value c.owner)) m) (answered (touching (writable o.image.regions) (width_of i.op) trap.Misaligned trap.Store a (λ c. store_cell t a (width_of i.op) (slice_index t.regs i.rs2) c)) u)
       store_at i a e = touch (writable o.image.regions) (width_of i.op) trap.Misaligned trap.Store a (λ c. store_owned h a (width_of i.op) (slice_index h.regs i.rs2) c.value c.owner) (λ c. store_cell t a (width_of i.op) (slice_index t.regs i.rs2) c) (stores a (width_of i.op) _ _ (m (a / 8)) (u (a / 8)) e (ws (a / 8)))
@@ -248,10 +244,7 @@ module _ (cipher : IsCipher) (o : Setting) (fi : IsSetting o) (on : ℕ → Layo
 
   -- ---- by the word of the copy
 
-  pub pair_is : whose_of (o.layout_at h.layout) h.pc ≡ Some t.at
-  pair_is = ap (whose_of (o.layout_at h.layout)) r.pc ∙ whose_there o h.layout fi t.at (pair_of o.image fi.image t u so)
-
-  pub kind_is : kind_there (literal_in o.image) (o.layout_at h.layout) h.pc (copied o.image (o.layout_at h.layout) h.pc) ≡ moved_kind (o.layout_at h.layout) (kind_at o.image t.at)
+  kind_is : kind_there (literal_in o.image) (o.layout_at h.layout) h.pc (copied o.image (o.layout_at h.layout) h.pc) ≡ moved_kind (o.layout_at h.layout) (kind_at o.image t.at)
   kind_is =
       ap (λ a. kind_there (literal_in o.image) (o.layout_at h.layout) a (copied o.image (o.layout_at h.layout) a)) r.pc
       ∙ kind_of_copy o.image (o.layout_at h.layout) t.at so.row fi.image (fi.placed h.layout) (fi.sizes h.layout) so.row_is

@@ -1,5 +1,5 @@
 -- A hart that moves to another layout.
-use Rattle.std.proofs.Common.{◌≡◌, ◌≢◌, ℕ, zero, suc, ◌+◌, ◌*◌, ◌^◌, ◌<◌, ◌≤◌, Bool, true, false, List, [], ◌∷◌, length, Option, Some, None, refl, sym, ap, ◌∙◌, subst, inl, arith, get_or-set_same, get_or-set_other}
+use Rattle.std.proofs.Common.{◌≡◌, ◌≢◌, ℕ, zero, suc, ◌*◌, ◌<◌, Bool, true, false, List, [], ◌∷◌, length, Option, Some, None, refl, sym, ap, ◌∙◌, subst, inl, arith, get_or-set_same, get_or-set_other}
 use Rattle.std.specs.Prelude.{slice_index, slice_set, slice_get, ◌==◌, if◌then◌else◌}
 use Rattle.std.proofs.Math.ListN.{length-set}
 use Rattle.std.proofs.lemmas.Bool.Decides.{nat_tests}
@@ -15,12 +15,12 @@ use Rattle.sh_types.specs.Fine.{IsSetting}
 use Rattle.sh_types.specs.Image.{sizes_of}
 use Rattle.sh_types.specs.Place.{IsPair, place_of}
 use Rattle.sh_types.specs.Shuffled.{Setting, Owned, owned, key_of, Shuffled}
-use Rattle.sh_types.specs.StandsFor.{ref_place, RaIs, RunsAs, HartStands, HartsStand, CellStands, WordsStand, layout_number, layouts_of, StandsFor}
+use Rattle.sh_types.specs.StandsFor.{ref_place, RaIs, RunsAs, HartStands, HartsStand, CellStands, WordsStand, layout_number, layouts_of}
 use Rattle.sh_types.specs.Unmoved.{Thread, Cell, Number, Return, is_return, is_his, Unmoved}
 use Rattle.sh_law.specs.Keeps.{IsCipher}
-use Rattle.sh_law.specs.Sound.{ThreadOk, AllOk, AllOwned, HartsOn, Stays}
+use Rattle.sh_law.specs.Sound.{Stays}
 use Rattle.sh_law.proofs.Keeping.{pair_of, ra_pair, word_fine}
-use Rattle.sh_law.proofs.Lists.{and_first, and_second, GetStands, number_at, number_off, set_on}
+use Rattle.sh_law.proofs.Lists.{and_first, GetStands, number_at, number_off, set_on}
 use Rattle.sh_law.proofs.Placing.{place_small, whose_root, whose_there}
 
 module _ (cipher : IsCipher) (o : Setting) (fi : IsSetting o) where

@@ -1,11 +1,10 @@
 -- What the law says of each hart of a state that a legal list of events leads to.
-use Rattle.std.proofs.Common.{◌≡◌, ◌≢◌, ℕ, ℤ, ◌*◌, ◌/◌, Bool, true, false, Option, Some, None, List, length, refl, sym, ap, ◌∙◌, subst, arith}
+use Rattle.std.proofs.Common.{◌≡◌, ℕ, ℤ, ◌*◌, ◌/◌, Bool, true, false, Option, Some, None, List, length, refl, sym, ap, ◌∙◌, subst, arith}
 use Rattle.std.specs.Prelude.{slice_get, slice_index, ◌==◌, if◌then◌else◌}
 use Rattle.std.proofs.lemmas.Bool.Decides.{nat_tests}
 use Rattle.sh_types.specs.declared.code.Image.{Image}
 use Rattle.sh_types.specs.declared.code.Pair.{Pair}
 use Rattle.sh_types.specs.declared.layouts.Layout.{Layout}
-use Rattle.sh_types.specs.declared.runs.End.{End}
 use Rattle.sh_types.specs.declared.runs.Event.{Event}
 use Rattle.sh_types.specs.declared.runs.Hart.{Hart}
 use Rattle.sh_types.specs.Chain.{his, Sound}
@@ -18,7 +17,7 @@ use Rattle.sh_types.specs.Kind.{Kind, Sets, Computes, Passes, Loads, Stores, Ato
 use Rattle.sh_types.specs.Need.{plus_imm}
 use Rattle.sh_types.specs.Place.{whose_of}
 use Rattle.sh_types.specs.Shuffled.{Setting, Owned, key_of, Shuffled, kind_there, literal_in}
-use Rattle.sh_types.specs.StandsFor.{ref_place, RunsAs, HartStands, CellStands, layout_number, layouts_of, StandsFor}
+use Rattle.sh_types.specs.StandsFor.{ref_place, RunsAs, HartStands, CellStands, layout_number, layouts_of}
 use Rattle.sh_types.specs.Unmoved.{Thread, Cell, Number, Return, is_his, Unmoved, unmoved_run}
 use Rattle.sh_law.specs.Keeps.{IsCipher}
 use Rattle.sh_law.specs.Reach.{IsPlaced, OpensAs, SoundIn}
@@ -79,9 +78,6 @@ moved_restores l Illegal imm e = absurd (cc)
 moved_restores l Past imm e = absurd (cc)
 
 module _ (o : Setting) (fi : IsSetting o) (s : Shuffled) (u : Unmoved) (n : ℕ) (h : Hart) (st : Stays o s u) (eh : slice_get s.harts n ≡ Some h) (live : h.live ≡ true) where
-  p : Paired o u n h
-  p = paired o s u n h st eh
-
   sound : Sound o.image (paired o s u n h st eh).thread u.cells
   sound = let q = paired o s u n h st eh in q.ok.sound (sym q.stands.live ∙ live)
 
@@ -127,8 +123,8 @@ module _ (o : Setting) (fi : IsSetting o) (s : Shuffled) (u : Unmoved) (n : ℕ)
       let q = paired o s u n h st eh in
       let t = q.thread in
       let there : kind_there (literal_in o.image) (o.layout_at h.layout) h.pc (copied o.image (o.layout_at h.layout) h.pc) ≡ moved_kind (o.layout_at h.layout) (kind_at o.image t.at) =
-          ap (λ a. kind_there (literal_in o.image) (o.layout_at h.layout) a (copied o.image (o.layout_at h.layout) a)) runs.pc
-          ∙ kind_of_copy o.image (o.layout_at h.layout) t.at sound.row fi.image (fi.placed h.layout) (fi.sizes h.layout) sound.row_is in
+      ap (λ a. kind_there (literal_in o.image) (o.layout_at h.layout) a (copied o.image (o.layout_at h.layout) a)) runs.pc
+      ∙ kind_of_copy o.image (o.layout_at h.layout) t.at sound.row fi.image (fi.placed h.layout) (fi.sizes h.layout) sound.row_is in
       let kind : kind_at o.image t.at ≡ Restores imm = moved_restores (o.layout_at h.layout) (kind_at o.image t.at) imm (sym there ∙ k) in
       let f : Restored o.image t.at sound.row imm = subst (λ x. Follows o.image t.at sound.row x) kind (fi.image.frames.follows t.at sound.row sound.row_is) in
       let m = meets o.image t u.cells sound imm f in

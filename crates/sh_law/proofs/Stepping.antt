@@ -1,10 +1,8 @@
 -- One instruction of whole states.
-use Rattle.std.proofs.Common.{◌≡◌, ◌≢◌, ◌⊎◌, ℕ, ◌+◌, ◌%◌, ◌≤◌, Bool, true, false, List, [], ◌∷◌, ◌++◌, length, Option, Some, None, refl, sym, ap, ◌∙◌, subst, inl, inr, arith}
-use Rattle.std.specs.Prelude.{slice_index, slice_set, slice_get, ◌&&◌, ◌==◌, if◌then◌else◌}
+use Rattle.std.proofs.Common.{◌≡◌, ◌≢◌, ℕ, ◌%◌, Bool, true, false, List, [], ◌++◌, Option, Some, None, refl, sym, ap, ◌∙◌, subst, inl, inr, arith}
+use Rattle.std.specs.Prelude.{slice_index, slice_set, slice_get, ◌==◌, if◌then◌else◌}
 use Rattle.std.proofs.Math.Path.{fun_ext}
 use Rattle.std.proofs.lemmas.Bool.Decides.{nat_tests}
-use Rattle.sh_types.specs.declared.code.CodeRef.{CodeRef}
-use Rattle.sh_types.specs.declared.layouts.Layout.{Layout}
 use Rattle.sh_types.specs.declared.runs.End.{End}
 use Rattle.sh_types.specs.declared.runs.End.TheVariants as end
 use Rattle.sh_types.specs.declared.runs.Hart.{Hart}
@@ -15,10 +13,10 @@ use Rattle.sh_types.specs.Fine.{IsSetting}
 use Rattle.sh_types.specs.Memory.{readable}
 use Rattle.sh_types.specs.Need.{Outcome, Goes, Puts, Calls, Quits, Traps, Leaks, answered, set_at}
 use Rattle.sh_types.specs.Place.{whose_of}
-use Rattle.sh_types.specs.Shuffled.{Setting, Owned, owned, set_hart, Shuffled, any_live, first_code, left, ended_hart, cleared, hart_ends, pair_or_first, pair_of, value_if, plain_value, after_call, hart_call, after, moved_of, on_hart, shuffled_step}
+use Rattle.sh_types.specs.Shuffled.{Setting, Owned, set_hart, Shuffled, first_code, left, ended_hart, cleared, hart_ends, pair_or_first, pair_of, value_if, plain_value, after_call, hart_call, after, moved_of, on_hart, shuffled_step}
 use Rattle.sh_types.specs.StandsFor.{RunsAs, HartStands, HartsStand, CellStands, WordsStand, layout_number, layouts_of, StandsFor}
-use Rattle.sh_types.specs.Unmoved.{Thread, Cell, Number, Return, set_thread, thread_needs, Unmoved, any_alive, first_answer, end_if, leaves, ended_thread, owner_of, number_of, is_his, emptied, thread_ends, then_call, thread_call, then_leaves, on_thread, unmoved_step}
-use Rattle.sh_law.specs.Agrees.{Both, BothPut, SameCall, Agrees}
+use Rattle.sh_types.specs.Unmoved.{Thread, Cell, Number, Return, set_thread, thread_needs, Unmoved, any_alive, end_if, leaves, ended_thread, owner_of, number_of, is_his, emptied, thread_ends, then_call, thread_call, then_leaves, on_thread, unmoved_step}
+use Rattle.sh_law.specs.Agrees.{Both, SameCall, Agrees}
 use Rattle.sh_law.specs.Keeps.{IsCipher, IsOwn, OutSound}
 use Rattle.sh_law.specs.Sound.{ThreadOk, AllOk, AllOwned, IsOn, HartsOn, Stays}
 use Rattle.sh_law.proofs.Agreeing.{one_agrees}

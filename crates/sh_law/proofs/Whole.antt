@@ -1,21 +1,19 @@
 -- Lists of instructions and of events.
-use Rattle.std.proofs.Common.{◌≡◌, ℕ, zero, suc, ◌+◌, Bool, true, false, List, [], ◌∷◌, ◌++◌, replicate, Option, Some, None, refl, sym, ap, ◌∙◌, subst, inl, arith, append_assoc}
-use Rattle.std.specs.Prelude.{slice_get, ◌==◌}
+use Rattle.std.proofs.Common.{◌≡◌, ℕ, zero, suc, ◌+◌, true, false, List, [], ◌∷◌, ◌++◌, replicate, refl, sym, ap, ◌∙◌, subst, inl, append_assoc}
+use Rattle.std.specs.Prelude.{◌==◌}
 use Rattle.sh_types.specs.declared.code.Image.{Image}
 use Rattle.sh_types.specs.declared.code.RaPlace.TheVariants.{Reg}
 use Rattle.sh_types.specs.declared.runs.Event.{Event}
 use Rattle.sh_types.specs.declared.runs.Event.TheVariants.{Run, Migrate, Publish, Erase}
-use Rattle.sh_types.specs.declared.runs.Hart.{Hart}
 use Rattle.sh_types.specs.Chain.{Sound}
-use Rattle.sh_types.specs.Event.{instructions, goes_still, can_all, migrate, after_event, is_allowed, shuffled_from, IsLegalFrom, state_after, IsLegalIn, written}
+use Rattle.sh_types.specs.Event.{instructions, goes_still, can_all, after_event, is_allowed, shuffled_from, IsLegalFrom, state_after, IsLegalIn, written}
 use Rattle.sh_types.specs.Fine.{IsSetting}
 use Rattle.sh_types.specs.Frame.{frame}
 use Rattle.sh_types.specs.Memory.{first_word}
 use Rattle.sh_types.specs.Shuffled.{Setting, Shuffled, shuffled_start}
-use Rattle.sh_types.specs.StandsFor.{RunsAs, HartStands, StandsFor}
-use Rattle.sh_types.specs.Unmoved.{Thread, Cell, Number, Unmoved, unmoved_step, unmoved_from, first_thread, unmoved_start, unmoved_run}
+use Rattle.sh_types.specs.Unmoved.{Number, Unmoved, unmoved_step, unmoved_from, first_thread, unmoved_start, unmoved_run}
 use Rattle.sh_law.specs.Keeps.{IsCipher}
-use Rattle.sh_law.specs.Sound.{ThreadOk, AllOk, AllOwned, HartsOn, Stays}
+use Rattle.sh_law.specs.Sound.{ThreadOk, AllOk, HartsOn, Stays}
 use Rattle.sh_law.proofs.Lists.{and_first, and_second, eq_of, not_true, get_stands, on_more, on_fewer}
 use Rattle.sh_law.proofs.Moving.{at_migrate}
 use Rattle.sh_law.proofs.Stepping.{one_stands}

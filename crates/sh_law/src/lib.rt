@@ -4,12 +4,6 @@
 mod examples;
 mod runs;
 
-pub use examples::is_met;
-pub use runs::{
-    harts_are_placed, instructions_are_counted, no_live_hart_on_an_erased_layout, owners_are_live,
-    restores_meet_their_own, seeds_do_not_matter, states_stand,
-};
-
 ghost use Rattle.std.specs.Prelude.{◌≡◌, ℕ, Some, length};
 ghost use Rattle.sh_types.specs.declared.code.FrameState.{FrameState};
 ghost use Rattle.sh_types.specs.declared.code.Image.{Image};
@@ -28,6 +22,12 @@ ghost use Rattle.sh_types.specs.StandsFor.{HartStands, RunsAs, WordsStand};
 ghost use Rattle.sh_types.specs.Unmoved.{Thread, Cell, thread_needs};
 ghost use Rattle.sh_law.specs.Agrees.{Agrees};
 ghost use Rattle.sh_law.specs.Keeps.{OutSound};
+
+pub use examples::is_met;
+pub use runs::{
+    harts_are_placed, instructions_are_counted, no_live_hart_on_an_erased_layout, owners_are_live,
+    restores_meet_their_own, seeds_do_not_matter, states_stand,
+};
 
 /// The word that a copy has at the place of a reached pair does what the image's word does there: it is of the
 /// same kind, with the addresses that the layout gives to the targets. The image is a fine one, and the layout is
