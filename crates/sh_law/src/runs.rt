@@ -31,7 +31,7 @@ pub fn no_live_hart_on_an_erased_layout()
     ensures { (o : Setting) (events : List Event) (n : ℕ) (h : Hart) → IsSetting o → IsLegalIn o events → slice_get (state_after o events).harts n ≡ Some h → h.live ≡ true → IsOn (state_after o events).newest (state_after o events).older h.layout }
 {}
 
-/// Each hart has the number of its place among the harts, and 32 registers. A live one is at a pair that a path
+/// Each hart has the number of its place among the harts. A live one has 32 registers, is at a pair that a path
 /// reaches, and its frames lead to the words that it owns.
 pub fn harts_are_placed()
     ensures number { (o : Setting) (events : List Event) (n : ℕ) (h : Hart) → IsSetting o → IsLegalIn o events → slice_get (state_after o events).harts n ≡ Some h → h.number ≡ n }
