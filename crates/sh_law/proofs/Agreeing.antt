@@ -205,23 +205,23 @@ module _ (cipher : IsCipher) (o : Setting) (fi : IsSetting o) (on : ℕ → Layo
   does_agree (Sets rd v) e f = sets rd v
   does_agree (Computes i) e f =
       leak (reads_ra i) _ _ (λ q.
-        subst (λ x. Both o h t (set_hart h i.rd x) (set_thread t i.rd (computed i (slice_index t.regs i.rs1) (slice_index t.regs i.rs2))))
-        (sym (same_computed i _ _ _ _ (r.regs i.rs1 (reads_first i (is_return t.ra) q)) (λ x. r.regs i.rs2 (reads_second i (is_return t.ra) q x))))
-        (sets i.rd (computed i (slice_index t.regs i.rs1) (slice_index t.regs i.rs2))))
+      subst (λ x. Both o h t (set_hart h i.rd x) (set_thread t i.rd (computed i (slice_index t.regs i.rs1) (slice_index t.regs i.rs2))))
+      (sym (same_computed i _ _ _ _ (r.regs i.rs1 (reads_first i (is_return t.ra) q)) (λ x. r.regs i.rs2 (reads_second i (is_return t.ra) q x))))
+      (sets i.rd (computed i (slice_index t.regs i.rs1) (slice_index t.regs i.rs2))))
   does_agree Passes e f = next_both
   does_agree (Loads i) e f =
       leak (i.rs1 == 1) _ _ (λ q.
-        subst (λ x. Agrees o on h t (answered (touching (readable o.image.regions) (width_of i.op) trap.Misaligned trap.Load (plus_imm x i.imm) (λ c. load_owned h i (plus_imm x i.imm) c.value c.owner)) m) (answered (touching (readable o.image.regions) (width_of i.op) trap.Misaligned trap.Load (plus_imm (slice_index t.regs i.rs1) i.imm) (λ c. load_cell t i (plus_imm (slice_index t.regs i.rs1) i.imm) c)) u))
-        (sym (r.regs i.rs1 (only_free i.rs1 (is_return t.ra) q)))
-        (load_at i (plus_imm (slice_index t.regs i.rs1) i.imm)))
+      subst (λ x. Agrees o on h t (answered (touching (readable o.image.regions) (width_of i.op) trap.Misaligned trap.Load (plus_imm x i.imm) (λ c. load_owned h i (plus_imm x i.imm) c.value c.owner)) m) (answered (touching (readable o.image.regions) (width_of i.op) trap.Misaligned trap.Load (plus_imm (slice_index t.regs i.rs1) i.imm) (λ c. load_cell t i (plus_imm (slice_index t.regs i.rs1) i.imm) c)) u))
+      (sym (r.regs i.rs1 (only_free i.rs1 (is_return t.ra) q)))
+      (load_at i (plus_imm (slice_index t.regs i.rs1) i.imm)))
     where
       load_at : (i : Instr) (a : ℕ) → Agrees o on h t (answered (touching (readable o.image.regions) (width_of i.op) trap.Misaligned trap.Load a (λ c. load_owned h i a c.value c.owner)) m) (answered (touching (readable o.image.regions) (width_of i.op) trap.Misaligned trap.Load a (λ c. load_cell t i a c)) u)
       load_at i a = touch (readable o.image.regions) (width_of i.op) trap.Misaligned trap.Load a (λ c. load_owned h i a c.value c.owner) (λ c. load_cell t i a c) (loads i a (a / 8) (m (a / 8)) (u (a / 8)) (ws (a / 8)))
   does_agree (Stores i) e f =
       leak (both_ra i) _ _ (λ q.
-        subst (λ x. Agrees o on h t (answered (touching (writable o.image.regions) (width_of i.op) trap.Misaligned trap.Store (plus_imm x i.imm) (λ c. store_owned h (plus_imm x i.imm) (width_of i.op) (slice_index h.regs i.rs2) c.value c.owner)) m) (answered (touching (writable o.image.regions) (width_of i.op) trap.Misaligned trap.Store (plus_imm (slice_index t.regs i.rs1) i.imm) (λ c. store_cell t (plus_imm (slice_index t.regs i.rs1) i.imm) (width_of i.op) (slice_index t.regs i.rs2) c)) u))
-        (sym (r.regs i.rs1 (first_free i.rs1 (i.rs2 == 1) (is_return t.ra) q)))
-        (store_at i (plus_imm (slice_index t.regs i.rs1) i.imm) (r.regs i.rs2 (second_free (i.rs1 == 1) i.rs2 (is_return t.ra) q))))
+      subst (λ x. Agrees o on h t (answered (touching (writable o.image.regions) (width_of i.op) trap.Misaligned trap.Store (plus_imm x i.imm) (λ c. store_owned h (plus_imm x i.imm) (width_of i.op) (slice_index h.regs i.rs2) c.value c.owner)) m) (answered (touching (writable o.image.regions) (width_of i.op) trap.Misaligned trap.Store (plus_imm (slice_index t.regs i.rs1) i.imm) (λ c. store_cell t (plus_imm (slice_index t.regs i.rs1) i.imm) (width_of i.op) (slice_index t.regs i.rs2) c)) u))
+      (sym (r.regs i.rs1 (first_free i.rs1 (i.rs2 == 1) (is_return t.ra) q)))
+      (store_at i (plus_imm (slice_index t.regs i.rs1) i.imm) (r.regs i.rs2 (second_free (i.rs1 == 1) i.rs2 (is_return t.ra) q))))
     where
       store_at : (i : Instr) (a : ℕ) → slice_index h.regs i.rs2 ≡ slice_index t.regs i.rs2 → Agrees o on h t (answered (touching (writable o.image.regions) (width_of i.op) trap.Misaligned trap.Store a (λ c. store_owned h a (width_of i.op) (slice_index h.regs i.rs2) c.value c.owner)) m) (answered (touching (writable o.image.regions) (width_of i.op) trap.Misaligned trap.Store a (λ c. store_cell t a (width_of i.op) (slice_index t.regs i.rs2) c)) u)
       store_at i a e = touch (writable o.image.regions) (width_of i.op) trap.Misaligned trap.Store a (λ c. store_owned h a (width_of i.op) (slice_index h.regs i.rs2) c.value c.owner) (λ c. store_cell t a (width_of i.op) (slice_index t.regs i.rs2) c) (stores a (width_of i.op) _ _ (m (a / 8)) (u (a / 8)) e (ws (a / 8)))
