@@ -46,6 +46,7 @@ read_op : (op : Op) (form : Form) (w : ℕ) → (read op form w).op ≡ op
 read_op op Upper w = refl
 read_op op _ w = refl
 
+-- the word has the opcode of the instruction, and its fields
 record Read (w : ℕ) (i : Instr) : Type 0 where
   opcode : w % 2 ^ 7 ≡ opcode_of i.op
   made : read i.op (row_of i.op).form w ≡ i
@@ -65,6 +66,7 @@ read_from w i e = elim (cases_option (op_in w)) [
       }
 ]
 
+-- an immediate that was read fits twelve bits, also where the word is no number of 32 bits
 signed_any : (n : ℕ) → IsSigned 11 (signed_bits 11 n)
 signed_any n = elim (cases_lt n (2 ^ 11)) [
   | inl low ↦ rw (lt-ltb n (2 ^ 11) low) low
@@ -123,6 +125,7 @@ zero_there literals pc = refl
 
 -- ---- words that are copied as they are
 
+-- the opcodes of arithmetic, LUI, loads, stores and FENCE
 abbrev pub is_plain : ℕ → Bool
 is_plain o = ((o == 0x13) || (o == 0x1b) || (o == 0x33) || (o == 0x3b)) || (o == 0x37) || (o == 0x03) || (o == 0x23) || (o == 0x0f)
 
