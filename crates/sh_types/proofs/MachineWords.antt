@@ -79,7 +79,7 @@ x_encodes w x h e = elim (cases_Bool (is_lit w)) [
         let same : Sra (signed_bits 11 n) ≡ x = cc in
         let p = and_parts _ _ t in let q = and_parts _ _ p.1 in let r = and_parts _ _ q.1 in
         subst (λ y. EncodesX y w) same
-            (sra_encodes w h _ (eqb-true _ _ p.0) (eqb-true _ _ q.0) (eqb-true _ _ r.0) (eqb-true _ _ r.1) (low_again 11 n small) (signed_fit 11 n small))
+        (sra_encodes w h _ (eqb-true _ _ p.0) (eqb-true _ _ q.0) (eqb-true _ _ r.0) (eqb-true _ _ r.1) (low_again 11 n small) (signed_fit 11 n small))
     | inr sra ↦ elim (cases_Bool (is_lra w)) [
       | inl t ↦
           let n = w / 2 ^ 20 in
@@ -88,7 +88,7 @@ x_encodes w x h e = elim (cases_Bool (is_lit w)) [
           let same : Lra (signed_bits 11 n) ≡ x = cc in
           let p = and_parts _ _ t in let q = and_parts _ _ p.1 in let r = and_parts _ _ q.1 in
           subst (λ y. EncodesX y w) same
-              (lra_encodes w h _ (eqb-true _ _ p.0) (eqb-true _ _ q.0) (eqb-true _ _ r.0) (eqb-true _ _ r.1) (low_again 11 n small) (signed_fit 11 n small))
+          (lra_encodes w h _ (eqb-true _ _ p.0) (eqb-true _ _ q.0) (eqb-true _ _ r.0) (eqb-true _ _ r.1) (low_again 11 n small) (signed_fit 11 n small))
       | inr lra ↦ elim (cases_Bool (is_tjalr w)) [
         | inl t ↦
             let n = w / 2 ^ 20 in
@@ -97,7 +97,7 @@ x_encodes w x h e = elim (cases_Bool (is_lit w)) [
             let same : Tjalr (rd_in w) (rs1_in w) (signed_bits 11 n) ≡ x = cc in
             let p = and_parts _ _ t in
             subst (λ y. EncodesX y w) same
-                (tjalr_encodes w h _ _ _ (eqb-true _ _ p.0) (eqb-true _ _ p.1) refl refl (low_again 11 n small) (signed_fit 11 n small))
+            (tjalr_encodes w h _ _ _ (eqb-true _ _ p.0) (eqb-true _ _ p.1) refl refl (low_again 11 n small) (signed_fit 11 n small))
         | inr tjalr ↦ let clash : None ≡ Some x = rw (lit, sra, lra, tjalr) at e in absurd (cc)
       ]
     ]
@@ -177,6 +177,7 @@ x_apart i x w e f = by x (x_bits x w f)
   where
     k : Keys (row_of i.op).form (row_of i.op) w
     k = keys_of i w e
+
     by : (y : XInstr) → XBits y w → ⊥
     by (Lit rd number) b = apart_by (row_of i.op).opcode 0x0b (sym k.opcode ∙ b) (not_custom_0 i.op)
     by (Sra imm) b = apart_by (row_of i.op).opcode 0x2b (sym k.opcode ∙ b.0) (not_custom_1 i.op)
