@@ -208,9 +208,6 @@ shift_top : (sp v d depth : ℕ) (imm : ℤ) → v ≡ plus_imm sp imm → plus_
 shift_top sp v d depth imm e f = omega (arith, e, f)
 
 module _ (image : Image) (fi : IsFine image) (t : Thread) (u : ℕ → Cell) (many : length t.regs ≡ 32) (so : Sound image t u) where
-  abbrev sp : ℕ
-  sp = slice_index t.regs 2
-
   abbrev top : ℕ
   top = top_of (slice_index t.regs 2) so.row.depth
 
@@ -230,7 +227,7 @@ module _ (image : Image) (fi : IsFine image) (t : Thread) (u : ℕ → Cell) (ma
   written (suc (suc zero)) v Loses a is how =
       moved (next_of t.at) (slice_set t.regs 2 v) t.ra (frame 0 so.row.ra) a.1.1 so.ra (anew_chain image (mine t.number u) t.at so.slots so.row.ra top (top_of (slice_index (slice_set t.regs 2 v) 2) 0) t.ra a.0 a.1.0 so.chain)
   written (suc (suc zero)) v (Shifts imm) (To d e next) is how =
-      moved (next_of t.at) (slice_set t.regs 2 v) t.ra (frame d so.row.ra) next so.ra (subst (λ y. PcChain image (mine t.number u) t.at.func so.slots so.row.ra y t.ra) (sym (ap (λ y. top_of y d) (get_or-set_same t.regs 2 v 0 (omega (arith, many))) ∙ shift_top sp v d so.row.depth imm (is imm refl) e)) so.chain)
+      moved (next_of t.at) (slice_set t.regs 2 v) t.ra (frame d so.row.ra) next so.ra (subst (λ y. PcChain image (mine t.number u) t.at.func so.slots so.row.ra y t.ra) (sym (ap (λ y. top_of y d) (get_or-set_same t.regs 2 v 0 (omega (arith, many))) ∙ shift_top (slice_index t.regs 2) v d so.row.depth imm (is imm refl) e)) so.chain)
   written (suc (suc zero)) v (Shifts imm) (Anew e loose next) is how =
       moved (next_of t.at) (slice_set t.regs 2 v) t.ra (frame 0 so.row.ra) next so.ra (anew_chain image (mine t.number u) t.at so.slots so.row.ra top (top_of (slice_index (slice_set t.regs 2 v) 2) 0) t.ra e loose so.chain)
   written (suc (suc zero)) v Drops a is (inl e) = absurd (cc)
@@ -323,8 +320,8 @@ module _ (image : Image) (fi : IsFine image) (t : Thread) (u : ℕ → Cell) (ma
       no' ne = let t : (x == w) ≡ false = grind (arith, nat_tests) in rw t refl
 
   -- the word that a restore meets, and the chain behind it
-  taken : (c w : ℕ) (ws : List ℕ) (r : CodeRef) → Next image t.at so.row.depth Reg → IsAbove w ws → ((x : ℕ) → is_some (mine t.number u x) ≡ among (w ∷ ws) x) → FromEntry image t.at.func r → IsChain image (mine t.number u) ws r (top_of (slice_index t.regs 2) so.row.depth) → Sound image (goes t (next_of t.at) t.regs (Some r)) (set_at u w (Number 0))
-  taken c w ws r next above ex entry chain =
+  taken : (w : ℕ) (ws : List ℕ) (r : CodeRef) → Next image t.at so.row.depth Reg → IsAbove w ws → ((x : ℕ) → is_some (mine t.number u x) ≡ among (w ∷ ws) x) → FromEntry image t.at.func r → IsChain image (mine t.number u) ws r (top_of (slice_index t.regs 2) so.row.depth) → Sound image (goes t (next_of t.at) t.regs (Some r)) (set_at u w (Number 0))
+  taken w ws r next above ex entry chain =
       record {
         row = frame so.row.depth Reg;
         row_is = next;
@@ -335,9 +332,9 @@ module _ (image : Image) (fi : IsFine image) (t : Thread) (u : ℕ → Cell) (ma
         exact = exact_less w ws above ex;
       }
 
-  taken_or : (c a w : ℕ) (ws : List ℕ) (r : CodeRef) → a / 8 ≡ w → Next image t.at so.row.depth Reg → IsAbove w ws → ((x : ℕ) → is_some (mine t.number u x) ≡ among (w ∷ ws) x) → FromEntry image t.at.func r → mine t.number u w ≡ Some r → IsChain image (mine t.number u) ws r (top_of (slice_index t.regs 2) so.row.depth) → (x : Cell) → u w ≡ x → OutSound image t u (take_cell t a x)
-  taken_or c a w ws r at next above ex entry is chain (Number v) e = tt
-  taken_or c a w ws r at next above ex entry is chain (Return k r') e = by (k == t.number) refl
+  taken_or : (a w : ℕ) (ws : List ℕ) (r : CodeRef) → a / 8 ≡ w → Next image t.at so.row.depth Reg → IsAbove w ws → ((x : ℕ) → is_some (mine t.number u x) ≡ among (w ∷ ws) x) → FromEntry image t.at.func r → mine t.number u w ≡ Some r → IsChain image (mine t.number u) ws r (top_of (slice_index t.regs 2) so.row.depth) → (x : Cell) → u w ≡ x → OutSound image t u (take_cell t a x)
+  taken_or a w ws r at next above ex entry is chain (Number v) e = tt
+  taken_or a w ws r at next above ex entry is chain (Return k r') e = by (k == t.number) refl
     where
       by : (b : Bool) → (k == t.number) ≡ b → OutSound image t u (if b then Puts (goes t (next_of t.at) t.regs (Some r')) (a / 8) (Number 0) None else Leaks)
       by false q = tt
@@ -346,7 +343,7 @@ module _ (image : Image) (fi : IsFine image) (t : Thread) (u : ℕ → Cell) (ma
           let g : (if k == t.number then Some r' else None) ≡ Some r = ap (his t.number) (sym e) ∙ is in
           let h : Some r' ≡ Some r = ap (λ b. if b then Some r' else None) (sym q) ∙ g in
           let s : r' ≡ r = cc in (
-            subst (λ x. Sound image (goes t (next_of t.at) t.regs (Some r')) (set_at u x (Number 0))) (sym at) (subst (λ y. Sound image (goes t (next_of t.at) t.regs (Some y)) (set_at u w (Number 0))) (sym s) (taken c w ws r next above ex entry chain)),
+            subst (λ x. Sound image (goes t (next_of t.at) t.regs (Some r')) (set_at u x (Number 0))) (sym at) (subst (λ y. Sound image (goes t (next_of t.at) t.regs (Some y)) (set_at u w (Number 0))) (sym s) (taken w ws r next above ex entry chain)),
             λ j ne. sym (ap (λ x. his j (u x)) at ∙ ap (his j) e ∙ his_other j k r' (subst (λ y. j ≢ y) (sym p) ne)),
           )
 
@@ -357,7 +354,7 @@ module _ (image : Image) (fi : IsFine image) (t : Thread) (u : ℕ → Cell) (ma
       by [] ri ex ch = absurd ch
       by (w ∷ ws) ri ex ch =
           let e : plus_imm (slice_index t.regs 2) imm / 8 ≡ w = omega (arith, slot_at re.0 imm w re.2 ch.0) in
-          taken_or re.0 (plus_imm (slice_index t.regs 2) imm) w ws ch.1.0 e re.3 ri ex ch.1.2 ch.1.1 ch.1.3 (u (plus_imm (slice_index t.regs 2) imm / 8)) (ap u (sym e))
+          taken_or (plus_imm (slice_index t.regs 2) imm) w ws ch.1.0 e re.3 ri ex ch.1.2 ch.1.1 ch.1.3 (u (plus_imm (slice_index t.regs 2) imm / 8)) (ap u (sym e))
 
   -- ---- calls and returns
 
