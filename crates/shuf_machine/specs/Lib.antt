@@ -1,0 +1,4 @@
+pub mod Meant
+pub mod Past
+pub mod Run
+pub mod Stub

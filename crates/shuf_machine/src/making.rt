@@ -1,0 +1,1 @@
+//! A machine's code and its opening state.
