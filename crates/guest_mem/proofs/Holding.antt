@@ -7,7 +7,7 @@ use Rattle.sh_types.specs.Need.{set_at}
 use Rattle.sh_types.specs.Shuffled.{owned}
 use Rattle.guest_mem.specs.Held.{Held, words_of, owner_of_byte, mapped_in}
 
-abbrev held : ℕ → List ℕ → List ℕ → Held
+abbrev pub held : ℕ → List ℕ → List ℕ → Held
 held first values owners = record { first = first; values = values; owners = owners }
 
 pub put_both : (first : ℕ) (values owners : List ℕ) (w v b : ℕ) → first ≤ w → w - first < length values → length values ≡ length owners → words_of (held first (slice_set values (w - first) v) (slice_set owners (w - first) b)) ≡ set_at (words_of (held first values owners)) w (owned v (owner_of_byte b))

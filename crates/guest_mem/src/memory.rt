@@ -1,9 +1,9 @@
 //! The memory of a guest.
-ghost use Rattle.std.specs.Prelude.{◌≡◌, ◌≢◌, ℕ, ◌+◌, ◌*◌, ◌/◌, ◌%◌, ◌<◌, ◌≤◌, ◌^◌, ◌&&◌, nat_le, true, Some, None, [], ◌∷◌, length, IfOk, IfSome, IfNone, option_map};
+ghost use Rattle.std.specs.Prelude.{◌≡◌, ◌≢◌, ℕ, ◌+◌, ◌*◌, ◌/◌, ◌%◌, ◌<◌, ◌≤◌, ◌^◌, ◌==◌, ◌&&◌, nat_le, true, Some, None, [], ◌∷◌, length, slice_index, if◌then◌else◌, IfOk, IfSome, IfNone, option_map};
 ghost use Rattle.sh_types.specs.Image.{first_stack};
 ghost use Rattle.sh_types.specs.Memory.{readable as readable_of, writable as writable_of, first_word, byte_of};
 ghost use Rattle.sh_types.specs.Need.{set_at};
-ghost use Rattle.sh_types.specs.Shuffled.{owned};
+ghost use Rattle.sh_types.specs.Shuffled.{owned, cleared};
 ghost use Rattle.guest_mem.specs.Held.{words_of, regions_of, owner_of_byte, mapped_in};
 
 use sh_types::{Items, NoMemory, Region};
@@ -84,6 +84,15 @@ impl GuestMem {
         is_within(self.first, self.values.len() as u64, address, length)
     }
 
+    /// The return words of a hart become zero and nobody's. It takes no memory.
+    pub fn clear_owned(&mut self, hart: u32)
+        requires { hart < 64 }
+        ensures words { words_of self.new ≡ cleared hart (words_of self.old) }
+        ensures regions { regions_of self.new ≡ regions_of self.old }
+    {
+        clear(&mut self.values, &mut self.owners, hart as u8 + 1);
+    }
+
     /// The word is one of the region.
     pub(crate) fn is_mapped(&self, address: u64) -> bool
         ensures { result ≡ mapped_in self.now address }
@@ -119,6 +128,20 @@ fn zeroed(alloc: Global, first: u64, count: usize) -> Result<GuestMem, NoMemory>
         values,
         owners,
     })
+}
+
+/// Each word with this owner's byte becomes zero and nobody's.
+fn clear(values: &mut [u64], owners: &mut [u8], owner: u8)
+    requires { length values.old ≡ length owners.old }
+    ensures values { (k : ℕ) → slice_index values.new k ≡ (if slice_index owners.old k == owner then 0 else slice_index values.old k) }
+    ensures owners { (k : ℕ) → slice_index owners.new k ≡ (if slice_index owners.old k == owner then 0 else slice_index owners.old k) }
+{
+    for i in 0..owners.len() {
+        if owners[i] == owner {
+            values[i] = 0;
+            owners[i] = 0;
+        }
+    }
 }
 
 /// A range lies within so many words from one on.
