@@ -1,7 +1,8 @@
 //! The code that is run, and what instructions change.
-ghost use Rattle.std.specs.Prelude.{◌≡◌, ◌-◌, ◌<◌, ◌^◌, None, Some, [], slice_get, slice_set, vec_len};
+ghost use Rattle.std.specs.Prelude.{◌≡◌, ◌-◌, ◌<◌, ◌%◌, ◌^◌, None, Some, [], true, slice_get, slice_set, vec_len};
 ghost use Rattle.sh_types.specs.Event.{can_run};
 ghost use Rattle.sh_types.specs.Shuffled.{any_live as any_live_of, first_code as first_code_of, left, hart_ends, stopped};
+ghost use Rattle.guest_mem.specs.Held.{regions_of};
 ghost use Rattle.shuf_machine.specs.Meant.{meant};
 
 use crate::answers::Origin;
@@ -46,7 +47,7 @@ pub fn count_one(state: &mut State)
     requires count { state.old.count < 2 ^ 64 - 1 }
     requires end { state.old.end ≡ None }
     ensures meant { meant state.new ≡ left (meant state.old) (meant state.old).harts (meant state.old).words [] None }
-    ensures memory { state.new.memory ≡ state.old.memory }
+    ensures regions { regions_of state.new.memory ≡ regions_of state.old.memory }
 {
     state.count += 1;
 }
@@ -55,7 +56,7 @@ pub fn count_one(state: &mut State)
 pub fn stop(state: &mut State, end: End)
     requires { state.old.count < 2 ^ 64 - 1 }
     ensures meant { meant state.new ≡ stopped (meant state.old) end }
-    ensures memory { state.new.memory ≡ state.old.memory }
+    ensures regions { regions_of state.new.memory ≡ regions_of state.old.memory }
 {
     state.count += 1;
     state.end = Some(end);
@@ -79,4 +80,47 @@ fn first_code(harts: &[Hart]) -> u8
         Some(hart) => hart.code,
         None => 0,
     }
+}
+
+/// Ends a hart by an instruction; its return words become zero, and the run ends with the last hart. `hart` is the
+/// hart with this number.
+pub fn end_hart(state: &mut State, at: u32, hart: Hart, code: u8)
+    requires count { state.old.count < 2 ^ 64 - 1 }
+    requires at { at < vec_len state.old.harts }
+    requires number { hart.number < 64 }
+    requires end { state.old.end ≡ None }
+    ensures meant { meant state.new ≡ hart_ends (meant state.old) at hart code }
+    ensures regions { regions_of state.new.memory ≡ regions_of state.old.memory }
+{
+    state.harts[at as usize] = Hart {
+        live: false,
+        code,
+        ..hart
+    };
+    state.memory.clear_owned(hart.number);
+    state.count += 1;
+    if !any_live(&state.harts) {
+        state.end = Some(End::Exit {
+            code: first_code(&state.harts),
+        });
+    }
+}
+
+/// The low byte of a number, which is the code of an end.
+pub fn low_byte(number: u64) -> u8
+    ensures { result ≡ number % 256 }
+{
+    (number % 256) as u8
+}
+
+/// The hart with this number, which can go.
+#[tactic(auto, using(crate::proofs::Steps::can_end, crate::proofs::Steps::can_hart))]
+pub fn current(state: &State, at: u32) -> Hart
+    requires { can_run (meant state.now) at ≡ true }
+    ensures is { slice_get state.now.harts.items at ≡ Some result }
+    ensures live { result.live ≡ true }
+    ensures end { state.now.end ≡ None }
+    ensures at { at < vec_len state.now.harts }
+{
+    state.harts[at as usize]
 }

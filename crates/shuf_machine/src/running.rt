@@ -1,0 +1,112 @@
+//! Instructions of one hart.
+ghost use Rattle.std.specs.Prelude.{◌≡◌, ◌+◌, ◌-◌, ◌<◌, ◌≤◌, ◌^◌, ℕ, Option, ◌&&◌, true, false, nat_lt, IsTrue, IfOk, OnErr, slice_get, vec_len};
+ghost use Rattle.guest_mem.specs.Held.{regions_of};
+ghost use Rattle.sh_types.specs.Event.{can_run, can_all};
+ghost use Rattle.sh_types.specs.Fetch.{Tells};
+ghost use Rattle.sh_types.specs.Need.{Calls};
+ghost use Rattle.sh_types.specs.Place.{WellPlaced};
+ghost use Rattle.sh_types.specs.Shuffled.{shuffled_step};
+ghost use Rattle.shuf_machine.specs.Stub.{did_as};
+ghost use Rattle.shuf_machine.specs.Meant.{meant, asked_by, asked_in, IsCode, IsMapped, IsRun};
+ghost use Rattle.shuf_machine.specs.Next.{NextPlaced, next_outcome, moved_by, calls, moved_length, Reached};
+ghost use Rattle.shuf_machine.specs.Run.{setting_of};
+
+use crate::finishing::finish;
+use crate::state::{Code, State, can_go, count_one};
+use crate::stub::{Did, step};
+use sh_types::{Fetch, NoMemory};
+
+/// What the next instruction of a hart does to the hart and the memory.
+fn step_hart<F: Fetch>(code: &Code, state: &mut State, at: u32, fetch: &mut F) -> Did
+    requires code { IsCode code.now }
+    requires mapped { IsMapped code.now.image state.old.memory }
+    requires placed { NextPlaced code.now (meant state.old) at }
+    requires at { at < vec_len state.old.harts }
+    ensures did { (touched : Option ℕ) × (result ≡ did_as touched (next_outcome (setting_of code.now.origin) at (meant state.old))) }
+    ensures moved { meant state.new ≡ moved_by at (meant state.old) (next_outcome (setting_of code.now.origin) at (meant state.old)) }
+    ensures regions { regions_of state.new.memory ≡ regions_of state.old.memory }
+    ensures asked { Tells (F.asked fetch.old) (asked_by (slice_get (meant state.old).harts at)) (F.asked fetch.new) }
+{
+    step(
+        &mut state.harts[at as usize],
+        &code.layout,
+        &code.copy,
+        code.image.literals.as_slice(),
+        code.image.rows.as_slice(),
+        &mut state.memory,
+        fetch,
+    )
+}
+
+/// One instruction of a hart, unless it is a call of the environment and not the first of its event. Answers
+/// whether it is done.
+fn advance<F: Fetch>(
+    code: &Code,
+    state: &mut State,
+    at: u32,
+    first: bool,
+    fetch: &mut F,
+) -> Result<bool, NoMemory>
+    requires code { IsCode code.now }
+    requires mapped { IsMapped code.now.image state.old.memory }
+    requires placed { NextPlaced code.now (meant state.old) at }
+    requires can { can_run (meant state.old) at ≡ true }
+    requires count { state.old.count < 2 ^ 64 - 1 }
+    ensures done { IfOk result (λ done. IsTrue done → meant state.new ≡ shuffled_step (setting_of code.now.origin) at (meant state.old)) }
+    ensures quiet { IfOk result (λ done. IsTrue done → first ≡ false → calls (next_outcome (setting_of code.now.origin) at (meant state.old)) ≡ false) }
+    ensures stopped { IfOk result (λ done. done ≡ false → (first ≡ false) × (meant state.new ≡ meant state.old) × (next_outcome (setting_of code.now.origin) at (meant state.old) ≡ Calls)) }
+    ensures err { OnErr result ((first ≡ true) × (meant state.new ≡ meant state.old)) }
+    ensures mapped { IsMapped code.now.image state.new.memory }
+    ensures asked { Tells (F.asked fetch.old) (asked_by (slice_get (meant state.old).harts at)) (F.asked fetch.new) }
+{
+    let did = step_hart(code, state, at, fetch);
+    match did {
+        Did::Went { .. } => count_one(state),
+        Did::Call if !first => return Ok(false),
+        _ => finish(code, state, at, did)?,
+    }
+    Ok(true)
+}
+
+/// Whether the hart can go and has not done as many instructions as it may.
+fn going(state: &State, at: u32, done: u64, limit: u64) -> bool
+    ensures test { result ≡ (nat_lt done limit && can_run (meant state.now) at) }
+    ensures less { IsTrue result → done < limit }
+    ensures can { IsTrue result → can_run (meant state.now) at ≡ true }
+{
+    if done < limit {
+        can_go(state, at)
+    } else {
+        false
+    }
+}
+
+/// Runs at most so many instructions of a hart that can go. A call of the environment is only the first.
+pub fn run_hart<F: Fetch>(
+    code: &Code,
+    state: &mut State,
+    at: u32,
+    limit: u64,
+    fetch: &mut F,
+) -> Result<u64, NoMemory>
+    requires code { IsCode code.now }
+    requires mapped { IsMapped code.now.image state.old.memory }
+    requires reached { Reached (setting_of code.now.origin) (meant state.old) }
+    requires can { can_run (meant state.old) at ≡ true }
+    requires some { 1 ≤ limit }
+    requires count { state.old.count + limit < 2 ^ 64 }
+    ensures run { IfOk result (λ n. IsRun (setting_of code.now.origin) at limit n (meant state.old) (meant state.new)) }
+    ensures length { IfOk result (λ n. n ≡ moved_length (setting_of code.now.origin) at limit (meant state.old)) }
+    ensures err { OnErr result (meant state.new ≡ meant state.old) }
+    ensures mapped { IsMapped code.now.image state.new.memory }
+    ensures asked { IfOk result (λ n. Tells (F.asked fetch.old) (asked_in (setting_of code.now.origin) at limit n (meant state.old)) (F.asked fetch.new)) }
+{
+    let mut done: u64 = 0;
+    while going(state, at, done, limit) {
+        if !advance(code, state, at, done == 0, fetch)? {
+            return Ok(done);
+        }
+        done += 1;
+    }
+    Ok(done)
+}
