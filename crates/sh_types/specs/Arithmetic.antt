@@ -75,6 +75,10 @@ alu_of _ a b = 0
 abbrev pub is_arithmetic : Op → Bool
 is_arithmetic op = ((row_of op).opcode == 0x13) || ((row_of op).opcode == 0x1b) || ((row_of op).opcode == 0x33) || ((row_of op).opcode == 0x3b)
 
+-- the rows that work on 32 bits: opcodes OP-IMM-32 and OP-32
+abbrev pub is_word : Op → Bool
+is_word op = ((row_of op).opcode == 0x1b) || ((row_of op).opcode == 0x3b)
+
 abbrev pub is_branch : Op → Bool
 is_branch op = ((row_of op).opcode == 0x63)
 
