@@ -34,6 +34,13 @@ pub fn went() -> Did
     }
 }
 
+/// A trap that tells no value.
+pub fn trapped(kind: Trap) -> Did
+    ensures { result ≡ Did.Trapped kind 0 }
+{
+    Did::Trapped { kind, value: 0 }
+}
+
 /// The answer where memory refused the address; `kind` is the trap for a byte that is not mapped.
 pub fn refused(fault: MemFault, kind: Trap, address: u64) -> Did
     ensures { result ≡ refused_as fault kind address }

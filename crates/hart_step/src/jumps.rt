@@ -8,7 +8,7 @@ ghost use Rattle.sh_types.specs.Shuffled.{goes_on, returns_to};
 ghost use Rattle.hart_step.specs.Did.{did_as, hart_after};
 ghost use Rattle.hart_step.specs.Task.{NamesRegisters};
 
-use crate::answers::{Did, went};
+use crate::answers::{Did, trapped, went};
 use crate::registers::both_ra;
 use rv_alu::compare;
 use sh_types::{Hart, Instr, Trap};
@@ -61,10 +61,7 @@ pub fn goes_back(hart: &mut Hart) -> Did
     ensures hart { hart.new ≡ hart_after (if hart.old.marked then returns_to hart.old (slice_index hart.old.regs 1) else Traps trap.Illegal 0) hart.old }
 {
     if !hart.marked {
-        return Did::Trapped {
-            kind: Trap::Illegal,
-            value: 0,
-        };
+        return trapped(Trap::Illegal);
     }
     if hart.regs[1] == 0 {
         return Did::HartEnd;

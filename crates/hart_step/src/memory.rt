@@ -11,7 +11,7 @@ ghost use Rattle.guest_mem.specs.Answer.{IsWidth};
 ghost use Rattle.hart_step.specs.Did.{did_of, hart_after};
 ghost use Rattle.hart_step.specs.Task.{NamesRegisters};
 
-use crate::answers::{Did, refused};
+use crate::answers::{Did, refused, trapped};
 use crate::registers::{advance, both_ra, plus_imm, set};
 use guest_mem::{MemFault, View};
 use return_cipher::{seal, unseal};
@@ -110,10 +110,7 @@ pub fn saves<V: View>(hart: &mut Hart, layout: &Layout, imm: i64, view: &mut V) 
     ensures room { V.room view.old ≤ V.room view.new + 1 }
 {
     if !hart.marked {
-        return Did::Trapped {
-            kind: Trap::Illegal,
-            value: 0,
-        };
+        return trapped(Trap::Illegal);
     }
     let address = plus_imm(hart.regs[2], imm);
     let key = layout.keys.as_slice()[hart.number as usize];
