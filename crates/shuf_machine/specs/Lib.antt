@@ -1,4 +1,3 @@
 pub mod Meant
 pub mod Past
 pub mod Run
-pub mod Stub

@@ -6,9 +6,9 @@ ghost use Rattle.sh_types.specs.Place.{WellPlaced, whose_of};
 ghost use Rattle.sh_types.specs.Shuffled.{pair_or_first, after};
 ghost use Rattle.shuf_machine.specs.Meant.{meant, IsCode, IsMapped};
 ghost use Rattle.shuf_machine.specs.Run.{setting_of};
-ghost use Rattle.shuf_machine.specs.Stub.{did_as};
+ghost use Rattle.hart_step.specs.Did.{did_as};
 
 use crate::calls::call;
 use crate::state::{Code, State, current, end_hart, low_byte, stop};
-use crate::stub::Did;
+use hart_step::Did;
 use sh_types::{End, Hart, Layout, NoMemory, Pair, whose};

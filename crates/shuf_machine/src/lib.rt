@@ -4,6 +4,5 @@
 mod answers;
 mod making;
 mod state;
-mod stub;
 
 pub use answers::{MachineNo, No, Origin};

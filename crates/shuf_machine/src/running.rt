@@ -6,14 +6,14 @@ ghost use Rattle.sh_types.specs.Fetch.{Tells};
 ghost use Rattle.sh_types.specs.Need.{Calls};
 ghost use Rattle.sh_types.specs.Place.{WellPlaced};
 ghost use Rattle.sh_types.specs.Shuffled.{shuffled_step};
-ghost use Rattle.shuf_machine.specs.Stub.{did_as};
+ghost use Rattle.hart_step.specs.Did.{did_as};
 ghost use Rattle.shuf_machine.specs.Meant.{meant, asked_by, asked_in, IsCode, IsMapped, IsRun};
 ghost use Rattle.shuf_machine.specs.Next.{NextPlaced, next_outcome, moved_by, calls, moved_length, Reached};
 ghost use Rattle.shuf_machine.specs.Run.{setting_of};
 
 use crate::finishing::finish;
 use crate::state::{Code, State, can_go, count_one};
-use crate::stub::{Did, step};
+use hart_step::{Did, step};
 use sh_types::{Fetch, NoMemory};
 
 /// What the next instruction of a hart does to the hart and the memory.

@@ -5,8 +5,10 @@ use Rattle.sh_types.specs.declared.runs.Trap.{Trap}
 use Rattle.sh_types.specs.declared.runs.Trap.TheVariants as trap
 use Rattle.sh_types.specs.Need.{Outcome, Goes, Puts, Calls, Quits, Traps, Leaks, Need, Makes, Touches, answered}
 use Rattle.sh_types.specs.Shuffled.{Owned}
-use Rattle.shuf_machine.specs.declared.stub.Did.{Did}
-use Rattle.shuf_machine.specs.declared.stub.Did.TheVariants.{Went, Call, HartEnd, Trapped, Leak}
+use Rattle.guest_mem.specs.declared.views.MemFault.{MemFault}
+use Rattle.guest_mem.specs.declared.views.MemFault.TheVariants.{Misaligned, Fault, HoldsReturn}
+use Rattle.hart_step.specs.declared.answers.Did.{Did}
+use Rattle.hart_step.specs.declared.answers.Did.TheVariants.{Went, Call, HartEnd, Trapped, Leak}
 
 -- the answer for an outcome, with the address of the word that was touched
 abbrev pub did_as : Option ℕ → Outcome Hart Owned → Did
@@ -35,3 +37,8 @@ hart_after Quits h = h
 hart_after (Traps kind value) h = h
 hart_after Leaks h = h
 
+-- the answer where memory refused: a byte that is not mapped is a trap of this kind
+abbrev pub refused_as : MemFault → Trap → ℕ → Did
+refused_as Misaligned kind address = Trapped trap.Misaligned address
+refused_as Fault kind address = Trapped kind address
+refused_as (HoldsReturn word) kind address = Leak
