@@ -1,3 +1,4 @@
 pub mod Meant
+pub mod Next
 pub mod Past
 pub mod Run

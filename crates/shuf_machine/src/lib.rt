@@ -2,7 +2,9 @@
 #![tactic(auto)]
 
 mod answers;
+mod finishing;
 mod making;
+mod running;
 mod state;
 
 pub use answers::{MachineNo, No, Origin};

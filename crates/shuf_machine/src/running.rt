@@ -1,30 +1,29 @@
 //! Instructions of one hart.
-ghost use Rattle.std.specs.Prelude.{◌≡◌, ◌+◌, ◌-◌, ◌<◌, ◌≤◌, ◌^◌, ℕ, Option, ◌&&◌, true, false, nat_lt, IsTrue, IfOk, OnErr, slice_get, vec_len};
+ghost use Rattle.std.specs.Prelude.{◌≡◌, ◌+◌, ◌-◌, ◌<◌, ◌≤◌, ◌^◌, ℕ, ◌&&◌, true, false, nat_lt, IsTrue, IfOk, OnErr, slice_get, vec_len};
 ghost use Rattle.guest_mem.specs.Held.{regions_of};
 ghost use Rattle.sh_types.specs.Event.{can_run, can_all};
 ghost use Rattle.sh_types.specs.Fetch.{Tells};
 ghost use Rattle.sh_types.specs.Need.{Calls};
-ghost use Rattle.sh_types.specs.Place.{WellPlaced};
 ghost use Rattle.sh_types.specs.Shuffled.{shuffled_step};
-ghost use Rattle.hart_step.specs.Did.{did_as};
 ghost use Rattle.shuf_machine.specs.Meant.{meant, asked_by, asked_in, IsCode, IsMapped, IsRun};
-ghost use Rattle.shuf_machine.specs.Next.{NextPlaced, next_outcome, moved_by, calls, moved_length, Reached};
+ghost use Rattle.shuf_machine.specs.Next.{IsNext, IsBegun, next_outcome, is_call, moved_length, IsReached};
 ghost use Rattle.shuf_machine.specs.Run.{setting_of};
 
-use crate::finishing::finish;
+use crate::finishing::{call, leak, quit, trap};
 use crate::state::{Code, State, can_go, count_one};
 use hart_step::{Did, step};
 use sh_types::{Fetch, NoMemory};
 
 /// What the next instruction of a hart does to the hart and the memory.
-fn step_hart<F: Fetch>(code: &Code, state: &mut State, at: u32, fetch: &mut F) -> Did
+fn begin<F: Fetch>(code: &Code, state: &mut State, at: u32, fetch: &mut F) -> Did
     requires code { IsCode code.now }
     requires mapped { IsMapped code.now.image state.old.memory }
-    requires placed { NextPlaced code.now (meant state.old) at }
+    requires next { IsNext code.now (meant state.old) at }
     requires at { at < vec_len state.old.harts }
-    ensures did { (touched : Option ℕ) × (result ≡ did_as touched (next_outcome (setting_of code.now.origin) at (meant state.old))) }
-    ensures moved { meant state.new ≡ moved_by at (meant state.old) (next_outcome (setting_of code.now.origin) at (meant state.old)) }
-    ensures regions { regions_of state.new.memory ≡ regions_of state.old.memory }
+    ensures begun { IsBegun (setting_of code.now.origin) at result (meant state.old) (meant state.new) }
+    ensures mapped { IsMapped code.now.image state.new.memory }
+    ensures count { state.new.count ≡ state.old.count }
+    ensures end { state.new.end ≡ state.old.end }
     ensures asked { Tells (F.asked fetch.old) (asked_by (slice_get (meant state.old).harts at)) (F.asked fetch.new) }
 {
     step(
@@ -49,21 +48,23 @@ fn advance<F: Fetch>(
 ) -> Result<bool, NoMemory>
     requires code { IsCode code.now }
     requires mapped { IsMapped code.now.image state.old.memory }
-    requires placed { NextPlaced code.now (meant state.old) at }
+    requires next { IsNext code.now (meant state.old) at }
     requires can { can_run (meant state.old) at ≡ true }
     requires count { state.old.count < 2 ^ 64 - 1 }
     ensures done { IfOk result (λ done. IsTrue done → meant state.new ≡ shuffled_step (setting_of code.now.origin) at (meant state.old)) }
-    ensures quiet { IfOk result (λ done. IsTrue done → first ≡ false → calls (next_outcome (setting_of code.now.origin) at (meant state.old)) ≡ false) }
+    ensures quiet { IfOk result (λ done. IsTrue done → first ≡ false → is_call (next_outcome (setting_of code.now.origin) at (meant state.old)) ≡ false) }
     ensures stopped { IfOk result (λ done. done ≡ false → (first ≡ false) × (meant state.new ≡ meant state.old) × (next_outcome (setting_of code.now.origin) at (meant state.old) ≡ Calls)) }
     ensures err { OnErr result ((first ≡ true) × (meant state.new ≡ meant state.old)) }
     ensures mapped { IsMapped code.now.image state.new.memory }
     ensures asked { Tells (F.asked fetch.old) (asked_by (slice_get (meant state.old).harts at)) (F.asked fetch.new) }
 {
-    let did = step_hart(code, state, at, fetch);
-    match did {
+    match begin(code, state, at, fetch) {
         Did::Went { .. } => count_one(state),
         Did::Call if !first => return Ok(false),
-        _ => finish(code, state, at, did)?,
+        Did::Call => call(code, state, at)?,
+        Did::HartEnd => quit(code, state, at),
+        Did::Trapped { kind, value } => trap(code, state, at, kind, value),
+        Did::Leak => leak(code, state, at),
     }
     Ok(true)
 }
@@ -91,7 +92,7 @@ pub fn run_hart<F: Fetch>(
 ) -> Result<u64, NoMemory>
     requires code { IsCode code.now }
     requires mapped { IsMapped code.now.image state.old.memory }
-    requires reached { Reached (setting_of code.now.origin) (meant state.old) }
+    requires reached { IsReached (setting_of code.now.origin) (meant state.old) }
     requires can { can_run (meant state.old) at ≡ true }
     requires some { 1 ≤ limit }
     requires count { state.old.count + limit < 2 ^ 64 }

@@ -1,0 +1,82 @@
+-- The next instruction of a hart, and how many go on from there. This project's own.
+use Rattle.std.specs.Prelude.{◌≡◌, ℕ, ℤ, zero, suc, ◌<◌, ◌/◌, ◌^◌, ◌&&◌, Bool, true, false, not, Option, Some, None, List, [], slice_get, slice_index, if◌then◌else◌}
+use Rattle.sh_types.specs.declared.runs.Event.{Event}
+use Rattle.sh_types.specs.declared.runs.Hart.{Hart}
+use Rattle.sh_types.specs.Copy.{copied}
+use Rattle.sh_types.specs.Event.{can_run, state_after, IsLegalIn}
+use Rattle.sh_types.specs.Fetch.{InCopy, word_in}
+use Rattle.sh_types.specs.Kind.{Restores}
+use Rattle.sh_types.specs.Need.{Outcome, Goes, Puts, Calls, Quits, Traps, Leaks, plus_imm}
+use Rattle.sh_types.specs.Shuffled.{Setting, Owned, Shuffled, left, moved_of, shuffled_step, kind_there, literal_in}
+use Rattle.hart_step.specs.declared.answers.Did.{Did}
+use Rattle.hart_step.specs.declared.answers.Did.TheVariants.{Went, Call, HartEnd, Trapped, Leak}
+use Rattle.shuf_machine.specs.declared.state.Code.{Code}
+
+abbrev pub outcome_at : Setting → (ℕ → Owned) → Option Hart → Outcome Hart Owned
+outcome_at o m None = Quits
+outcome_at o m (Some h) = moved_of o h m
+
+-- what the next instruction of the hart with this number makes
+abbrev pub next_outcome : Setting → ℕ → Shuffled → Outcome Hart Owned
+next_outcome o n s = outcome_at o s.words (slice_get s.harts n)
+
+abbrev pub is_call : Outcome Hart Owned → Bool
+is_call (Goes h) = false
+is_call (Puts h w c stored) = false
+is_call Calls = true
+is_call Quits = false
+is_call (Traps kind value) = false
+is_call Leaks = false
+
+-- ---- how the code does an instruction
+
+abbrev pub is_went : Did → Bool
+is_went (Went word stored) = true
+is_went Call = false
+is_went HartEnd = false
+is_went (Trapped kind value) = false
+is_went Leak = false
+
+-- the outcome that the code's answer tells
+abbrev pub Comes : Did → Outcome Hart Owned → Type 0
+Comes (Went word stored) x = is_call x ≡ false
+Comes Call x = x ≡ Calls
+Comes HartEnd x = x ≡ Quits
+Comes (Trapped kind value) x = x ≡ Traps kind value
+Comes Leak x = x ≡ Leaks
+
+-- the hart and the word that it touched have changed, but nothing else: where the instruction went, it is still to
+-- be counted, and else it is still to be done
+pub record IsBegun (o : Setting) (n : ℕ) (did : Did) (s s' : Shuffled) : Type 0 where
+  pub comes : Comes did (next_outcome o n s)
+  pub went : is_went did ≡ true → shuffled_step o n s ≡ left s' s'.harts s'.words [] None
+  pub still : is_went did ≡ false → s' ≡ s
+
+-- the next word of the hart stands in the copy
+pub record IsNext (c : Code) (s : Shuffled) (n : ℕ) : Type 0 where
+  pub hart : Hart
+  pub is : slice_get s.harts n ≡ Some hart
+  pub number : hart.number < 64
+  pub layout : hart.layout ≡ 1
+  pub pc : hart.pc < 2 ^ 63
+  pub there : InCopy c.copy hart.pc
+  pub word : word_in c.copy hart.pc ≡ copied c.image c.layout hart.pc
+  pub meets : (imm : ℤ) → kind_there (literal_in c.image) c.layout hart.pc (word_in c.copy hart.pc) ≡ Restores imm → (s.words (plus_imm (slice_index hart.regs 2) imm / 8)).owner ≡ Some hart.number
+
+-- ---- how many instructions a Run event has, by the moved machine
+
+-- at most so many further instructions, up to an environment call
+abbrev pub moved_further : Setting → ℕ → ℕ → Shuffled → ℕ
+moved_further o n zero s = 0
+moved_further o n (suc k) s = if can_run s n && not (is_call (next_outcome o n s)) then suc (moved_further o n k (shuffled_step o n s)) else 0
+
+-- any first instruction, and further ones
+abbrev pub moved_length : Setting → ℕ → ℕ → Shuffled → ℕ
+moved_length o n zero s = 0
+moved_length o n (suc k) s = suc (moved_further o n k (shuffled_step o n s))
+
+-- a legal list of events leads to the state
+pub record IsReached (o : Setting) (s : Shuffled) : Type 0 where
+  pub events : List Event
+  pub legal : IsLegalIn o events
+  pub state : s ≡ state_after o events
