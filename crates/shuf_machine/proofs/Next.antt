@@ -1,6 +1,6 @@
 -- What the code does for an instruction is what the moved machine does.
 use Rattle.std.proofs.Common.{◌≡◌, ℕ, zero, suc, Bool, true, false, Option, Some, None, List, [], ◌∷◌, refl, sym, ap, ◌∙◌, subst}
-use Rattle.std.specs.Prelude.{slice_get, slice_set, slice_index, ◌&&◌, if◌then◌else◌}
+use Rattle.std.specs.Prelude.{slice_get, slice_set, slice_index, slice_index_or, ◌==◌, ◌&&◌, if◌then◌else◌}
 use Rattle.std.proofs.Math.Path.{fun_ext}
 use Rattle.sh_types.specs.declared.code.Image.{Image}
 use Rattle.sh_types.specs.declared.code.Region.{Region}
@@ -9,7 +9,8 @@ use Rattle.sh_types.specs.declared.runs.Hart.{Hart}
 use Rattle.sh_types.specs.declared.runs.Trap.TheVariants as trap
 use Rattle.sh_types.specs.Copy.{copied}
 use Rattle.sh_types.specs.Event.{with_harts}
-use Rattle.sh_types.specs.Fetch.{word_in}
+use Rattle.sh_types.specs.declared.layouts.CodeCopy.{CodeCopy}
+use Rattle.sh_types.specs.Fetch.{word_in, fetched}
 use Rattle.sh_types.specs.Kind.{Kind, Sets, Computes, Passes, Loads, Stores, Atomics, Saves, Restores, CallsTo, JumpsTo, Branches, Through, GoesBack, Asks, Breaks, Illegal, Past}
 use Rattle.sh_types.specs.Memory.{readable, writable}
 use Rattle.sh_types.specs.Need.{Outcome, Goes, Puts, Calls, Quits, Traps, Leaks, Need, Makes, touching, answered, words_after, set_at, plus_imm}
@@ -18,10 +19,11 @@ use Rattle.sh_types.specs.Shuffled.{Setting, Owned, Shuffled, left, after, moved
 use Rattle.hart_step.specs.declared.answers.Did.{Did}
 use Rattle.hart_step.specs.declared.answers.Did.TheVariants.{Went, Call, HartEnd, Trapped, Leak}
 use Rattle.hart_step.specs.Did.{did_as, touched_by, did_of, hart_after}
+use Rattle.layout_maker.specs.Layout.{layout_of}
 use Rattle.guest_mem.specs.Held.{Held, regions_of}
 use Rattle.shuf_machine.specs.declared.state.Code.{Code}
-use Rattle.shuf_machine.specs.Meant.{IsCode, IsMapped}
-use Rattle.shuf_machine.specs.Next.{next_outcome, is_call, is_went, Comes, IsBegun, IsNext}
+use Rattle.shuf_machine.specs.Meant.{IsCode, IsMapped, asked_by}
+use Rattle.shuf_machine.specs.Next.{outcome_at, next_outcome, is_call, is_went, Comes, IsBegun, IsHere, IsNext}
 use Rattle.shuf_machine.specs.Run.{setting_of}
 
 -- ---- which addresses are mapped is all that an instruction asks of the regions
@@ -77,9 +79,66 @@ set_same [] n x e = refl
 set_same (y ∷ xs) zero x e = let q : y ≡ x = cc in ap (λ z. z ∷ xs) (sym q)
 set_same (y ∷ xs) (suc n) x e = ap (λ zs. y ∷ zs) (set_same xs n x e)
 
+pub next_is : (o : Setting) (n : ℕ) (s : Shuffled) (h : Hart) → slice_get s.harts n ≡ Some h → next_outcome o n s ≡ moved_of o h s.words
+next_is o n s h e = ap (outcome_at o s.words) e
+
 pub step_is : (o : Setting) (n : ℕ) (s : Shuffled) (h : Hart) → slice_get s.harts n ≡ Some h → shuffled_step o n s ≡ after o s n h (next_outcome o n s)
 unfolding shuffled_step
 step_is o n s h e = ap (on_hart o s n) e ∙ ap (after o s n h) (sym (next_is o n s h e))
-  where
-    next_is : (o : Setting) (n : ℕ) (s : Shuffled) (h : Hart) → slice_get s.harts n ≡ Some h → next_outcome o n s ≡ moved_of o h s.words
-    next_is o n s h e = rw e refl
+
+went_left : (o : Setting) (n : ℕ) (s : Shuffled) (h g h' : Hart) (m m' : ℕ → Owned) → shuffled_step o n s ≡ left s (slice_set s.harts n g) m [] None → h' ≡ g → m' ≡ m → shuffled_step o n s ≡ left (with_harts s (slice_set s.harts n h') m') (slice_set s.harts n h') m' [] None
+went_left o n s h g h' m m' e eh em =
+    e ∙ ap (λ x. left s (slice_set s.harts n x) m [] None) (sym eh) ∙ ap (λ x. left s (slice_set s.harts n h') x [] None) (sym em)
+
+still_there : (n : ℕ) (s : Shuffled) (h h' : Hart) (m' : ℕ → Owned) → slice_get s.harts n ≡ Some h → h' ≡ h → m' ≡ s.words → with_harts s (slice_set s.harts n h') m' ≡ s
+still_there n s h h' m' e eh em =
+    ap (λ x. with_harts s (slice_set s.harts n x) m') eh ∙ ap (λ hs. with_harts s hs m') (set_same s.harts n h e) ∙ ap (with_harts s s.harts) em
+
+begun_by : (o : Setting) (n : ℕ) (s : Shuffled) (h h' : Hart) (m' : ℕ → Owned) (t : Option ℕ) (x : Outcome Hart Owned) → slice_get s.harts n ≡ Some h → x ≡ next_outcome o n s → h' ≡ hart_after x h → m' ≡ words_after x s.words → IsBegun o n (did_as t x) s (with_harts s (slice_set s.harts n h') m')
+begun_by o n s h h' m' t (Goes g) e ex eh em =
+    record {
+      comes = ap is_call (sym ex);
+      went = λ w. went_left o n s h g h' s.words m' (step_is o n s h e ∙ ap (after o s n h) (sym ex)) eh em;
+      still = λ w. absurd (cc);
+    }
+begun_by o n s h h' m' t (Puts g w c stored) e ex eh em =
+    record {
+      comes = ap is_call (sym ex);
+      went = λ i. went_left o n s h g h' (set_at s.words w c) m' (step_is o n s h e ∙ ap (after o s n h) (sym ex)) eh em;
+      still = λ i. absurd (cc);
+    }
+begun_by o n s h h' m' t Calls e ex eh em = record { comes = sym ex; went = λ w. absurd (cc); still = λ w. still_there n s h h' m' e eh em }
+begun_by o n s h h' m' t Quits e ex eh em = record { comes = sym ex; went = λ w. absurd (cc); still = λ w. still_there n s h h' m' e eh em }
+begun_by o n s h h' m' t (Traps k v) e ex eh em = record { comes = sym ex; went = λ w. absurd (cc); still = λ w. still_there n s h h' m' e eh em }
+begun_by o n s h h' m' t Leaks e ex eh em = record { comes = sym ex; went = λ w. absurd (cc); still = λ w. still_there n s h h' m' e eh em }
+
+-- the answer of `step` on the hart, in place
+pub begun : (c : Code) (m : Held) (s : Shuffled) (n : ℕ) (h h' : Hart) (m' : ℕ → Owned) (lits : List ℕ) (did : Did) → IsCode c → IsMapped c.image m → slice_get s.harts n ≡ Some h → h.layout ≡ 1 → word_in c.copy h.pc ≡ copied c.image c.layout h.pc → lits ≡ c.image.literals → did ≡ did_of (hart_needs (λ k. slice_index lits k) c.layout (regions_of m) h (word_in c.copy h.pc)) s.words → h' ≡ hart_after (answered (hart_needs (λ k. slice_index lits k) c.layout (regions_of m) h (word_in c.copy h.pc)) s.words) h → m' ≡ words_after (answered (hart_needs (λ k. slice_index lits k) c.layout (regions_of m) h (word_in c.copy h.pc)) s.words) s.words → IsBegun (setting_of c.origin) n did s (with_harts s (slice_set s.harts n h') m')
+begun c m s n h h' m' lits did ic im e one word el ed eh em =
+    let need : Need Hart Owned = hart_needs (λ k. slice_index lits k) c.layout (regions_of m) h (word_in c.copy h.pc) in
+    let x : answered need s.words ≡ next_outcome (setting_of c.origin) n s = needs_are c m h lits ic im one word el s.words ∙ sym (next_is (setting_of c.origin) n s h e) in
+    subst (λ d. IsBegun (setting_of c.origin) n d s (with_harts s (slice_set s.harts n h') m')) (sym ed) (begun_by (setting_of c.origin) n s h h' m' (touched_by need) (answered need s.words) e x eh em)
+
+got_or : {A : Type 0} (xs : List A) (n : ℕ) (x d : A) → slice_get xs n ≡ Some x → slice_index_or xs n d ≡ x
+got_or [] n x d e = absurd (cc)
+got_or (y ∷ xs) zero x d e = cc
+got_or (y ∷ xs) (suc n) x d e = got_or xs n x d e
+
+-- the hart that was read is the one of this number
+pub read_is : (c : Code) (s : Shuffled) (n : ℕ) (h : Hart) → (next : IsNext c s n) → h ≡ slice_index_or s.harts n h → h ≡ next.hart
+read_is c s n h next e = e ∙ got_or s.harts n next.hart h next.is
+
+pub read_here : (c : Code) (s : Shuffled) (n : ℕ) (h : Hart) → IsNext c s n → h ≡ slice_index_or s.harts n h → IsHere c s.words h
+read_here c s n h next e = subst (IsHere c s.words) (sym (read_is c s n h next e)) next.here
+
+pub read_there : (c : Code) (s : Shuffled) (n : ℕ) (h : Hart) → IsNext c s n → h ≡ slice_index_or s.harts n h → slice_get s.harts n ≡ Some h
+read_there c s n h next e = next.is ∙ ap Some (sym (read_is c s n h next e))
+
+first_number : (c : Code) → IsCode c → c.copy.number ≡ 1
+unfolding layout_of
+first_number c ic = ap (λ (k : CodeCopy). k.number) ic.copy ∙ ap (λ (l : Layout). l.number) ic.layout
+
+-- the word that the code asks for
+pub asked_is : (c : Code) (s : Shuffled) (n : ℕ) (h : Hart) → IsCode c → IsNext c s n → h ≡ slice_index_or s.harts n h → fetched c.copy.number h.pc ∷ [] ≡ asked_by (slice_get s.harts n)
+asked_is c s n h ic next e =
+    ap (λ k. fetched k h.pc ∷ []) (first_number c ic ∙ sym (read_here c s n h next e).layout) ∙ sym (ap asked_by (read_there c s n h next e))

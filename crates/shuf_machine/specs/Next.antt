@@ -52,16 +52,20 @@ pub record IsBegun (o : Setting) (n : ℕ) (did : Did) (s s' : Shuffled) : Type 
   pub went : is_went did ≡ true → shuffled_step o n s ≡ left s' s'.harts s'.words [] None
   pub still : is_went did ≡ false → s' ≡ s
 
--- the next word of the hart stands in the copy
+-- the hart can be run from the copy
+pub record IsHere (c : Code) (m : ℕ → Owned) (h : Hart) : Type 0 where
+  pub number : h.number < 64
+  pub layout : h.layout ≡ 1
+  pub pc : h.pc < 2 ^ 63
+  pub there : InCopy c.copy h.pc
+  pub word : word_in c.copy h.pc ≡ copied c.image c.layout h.pc
+  pub meets : (imm : ℤ) → kind_there (literal_in c.image) c.layout h.pc (word_in c.copy h.pc) ≡ Restores imm → (m (plus_imm (slice_index h.regs 2) imm / 8)).owner ≡ Some h.number
+
+-- and so can the one with this number
 pub record IsNext (c : Code) (s : Shuffled) (n : ℕ) : Type 0 where
   pub hart : Hart
   pub is : slice_get s.harts n ≡ Some hart
-  pub number : hart.number < 64
-  pub layout : hart.layout ≡ 1
-  pub pc : hart.pc < 2 ^ 63
-  pub there : InCopy c.copy hart.pc
-  pub word : word_in c.copy hart.pc ≡ copied c.image c.layout hart.pc
-  pub meets : (imm : ℤ) → kind_there (literal_in c.image) c.layout hart.pc (word_in c.copy hart.pc) ≡ Restores imm → (s.words (plus_imm (slice_index hart.regs 2) imm / 8)).owner ≡ Some hart.number
+  pub here : IsHere c s.words hart
 
 -- ---- how many instructions a Run event has, by the moved machine
 
