@@ -15,7 +15,8 @@ use Rattle.sh_types.specs.Kind.{Kind, Sets, Computes, Passes, Loads, Stores, Ato
 use Rattle.sh_types.specs.Memory.{readable, writable}
 use Rattle.sh_types.specs.Need.{Outcome, Goes, Puts, Calls, Quits, Traps, Leaks, Need, Makes, touching, answered, words_after, set_at, plus_imm}
 use Rattle.sh_types.specs.Operands.{both_ra, width_of}
-use Rattle.sh_types.specs.Shuffled.{Setting, Owned, Shuffled, left, after, moved_of, on_hart, shuffled_step, hart_does, hart_needs, kind_there, literal_in, load_owned, store_owned, save_owned, take_owned}
+use Rattle.sh_types.specs.Place.{whose_of}
+use Rattle.sh_types.specs.Shuffled.{Setting, Owned, Shuffled, left, after, moved_of, on_hart, shuffled_step, hart_does, hart_needs, kind_there, literal_in, pair_or_first, pair_of, load_owned, store_owned, save_owned, take_owned}
 use Rattle.hart_step.specs.declared.answers.Did.{Did}
 use Rattle.hart_step.specs.declared.answers.Did.TheVariants.{Went, Call, HartEnd, Trapped, Leak}
 use Rattle.hart_step.specs.Did.{did_as, touched_by, did_of, hart_after}
@@ -142,3 +143,14 @@ first_number c ic = ap (λ (k : CodeCopy). k.number) ic.copy ∙ ap (λ (l : Lay
 pub asked_is : (c : Code) (s : Shuffled) (n : ℕ) (h : Hart) → IsCode c → IsNext c s n → h ≡ slice_index_or s.harts n h → fetched c.copy.number h.pc ∷ [] ≡ asked_by (slice_get s.harts n)
 asked_is c s n h ic next e =
     ap (λ k. fetched k h.pc ∷ []) (first_number c ic ∙ sym (read_here c s n h next e).layout) ∙ sym (ap asked_by (read_there c s n h next e))
+
+pub done_by : (o : Setting) (n : ℕ) (s s' : Shuffled) (h : Hart) (x : Outcome Hart Owned) → slice_get s.harts n ≡ Some h → next_outcome o n s ≡ x → s' ≡ after o s n h x → s' ≡ shuffled_step o n s
+done_by o n s s' h x e ex es = es ∙ sym (step_is o n s h e ∙ ap (after o s n h) ex)
+
+-- the hart that is next is the current one
+pub current_here : (c : Code) (s : Shuffled) (n : ℕ) (h : Hart) → IsNext c s n → slice_get s.harts n ≡ Some h → IsHere c s.words h
+current_here c s n h next e = let q : Some next.hart ≡ Some h = sym next.is ∙ e in let r : next.hart ≡ h = cc in subst (IsHere c s.words) r next.here
+
+-- the pair of a hart by the code's layout
+pub pair_is : (c : Code) (h : Hart) → IsCode c → h.layout ≡ 1 → pair_or_first (whose_of c.layout h.pc) ≡ pair_of (setting_of c.origin) h
+pair_is c h ic one = ap (λ l. pair_or_first (whose_of l h.pc)) (ic.layout ∙ ap (setting_of c.origin).layout_at (sym one))
