@@ -1,3 +1,4 @@
+pub mod Bytes
 pub mod Clearing
 pub mod Holding
 pub mod Opening
