@@ -9,7 +9,7 @@ use Rattle.guest_mem.proofs.memory.GuestMem.append_to.Goals as goal
 pub overflow_add-address : goal.overflow_add-address
 overflow_add-address c =
     let b = reads_below c.args.self.now c.args.address c.args.length c.loop-k.k c.requires.readable c.loop-k-test.true in
-    omega (arith, b, c.end-_end.ensures.is, c.end-_end.ensures.low)
+    omega (arith, b, c.end-end.ensures.is, c.end-end.ensures.low)
 
 pub loop-k-preserved : goal.loop-k-preserved
 loop-k-preserved c =
