@@ -1,0 +1,16 @@
+-- What a line of results says of an instruction.
+use Rattle.std.specs.Prelude.{ℕ, ◌+◌, ◌*◌, ◌/◌, ◌^◌, ◌==◌, ◌&&◌, Bool, Option, Some, None, if◌then◌else◌}
+use Rattle.sh_types.specs.Arithmetic.{alu_of, amo_of, is_arithmetic, is_amo}
+use Rattle.sh_types.specs.Instruction.{row_of}
+use Rattle.sh_types.specs.declared.instructions.Op.{Op}
+
+-- an atomic on words: funct3 is 2 ("A" extension, "Atomic Memory Operations")
+abbrev pub is_word_amo : Op → Bool
+is_word_amo op = is_amo op && ((row_of op).funct3 == 2)
+
+-- the number in rd of an arithmetic row; of an atomic the doubleword that is then in memory, where it was a
+abbrev pub result_of : Op → ℕ → ℕ → Option ℕ
+result_of op a b =
+    if is_arithmetic op then Some (alu_of op a b)
+    else (if is_word_amo op then Some (2 ^ 32 * (a / 2 ^ 32) + amo_of op a b)
+    else (if is_amo op then Some (amo_of op a b) else None))
