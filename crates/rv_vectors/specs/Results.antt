@@ -1,12 +1,7 @@
 -- What a line of results says of an instruction.
-use Rattle.std.specs.Prelude.{ℕ, ◌+◌, ◌*◌, ◌/◌, ◌^◌, ◌==◌, ◌&&◌, Bool, Option, Some, None, if◌then◌else◌}
-use Rattle.sh_types.specs.Arithmetic.{alu_of, amo_of, is_arithmetic, is_amo}
-use Rattle.sh_types.specs.Instruction.{row_of}
+use Rattle.std.specs.Prelude.{ℕ, ◌+◌, ◌*◌, ◌/◌, ◌^◌, Option, Some, None, if◌then◌else◌}
+use Rattle.sh_types.specs.Arithmetic.{alu_of, amo_of, is_arithmetic, is_amo, is_word_amo}
 use Rattle.sh_types.specs.declared.instructions.Op.{Op}
-
--- an atomic on words: funct3 is 2 ("A" extension, "Atomic Memory Operations")
-abbrev pub is_word_amo : Op → Bool
-is_word_amo op = is_amo op && ((row_of op).funct3 == 2)
 
 -- the number in rd of an arithmetic row; of an atomic the doubleword that is then in memory, where it was a
 abbrev pub result_of : Op → ℕ → ℕ → Option ℕ

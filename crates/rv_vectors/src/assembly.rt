@@ -5,8 +5,9 @@ use sh_types::{Instr, Op};
 use std::fmt;
 
 const REGISTERS: [&str; 32] = [
-    "zero", "ra", "sp", "gp", "tp", "t0", "t1", "t2", "s0", "s1", "a0", "a1", "a2", "a3", "a4", "a5", "a6", "a7", "s2",
-    "s3", "s4", "s5", "s6", "s7", "s8", "s9", "s10", "s11", "t3", "t4", "t5", "t6",
+    "zero", "ra", "sp", "gp", "tp", "t0", "t1", "t2", "s0", "s1", "a0", "a1", "a2", "a3", "a4",
+    "a5", "a6", "a7", "s2", "s3", "s4", "s5", "s6", "s7", "s8", "s9", "s10", "s11", "t3", "t4",
+    "t5", "t6",
 ];
 
 // The letters of a set of accesses, by its number, of which the highest bit is for input (RV32I, "Memory Ordering
@@ -40,10 +41,12 @@ fn operands_of(op: Op) -> Operands {
         Op::Lui | Op::Auipc => Operands::Upper,
         Op::Jal => Operands::Jump,
         Op::Beq | Op::Bne | Op::Blt | Op::Bge | Op::Bltu | Op::Bgeu => Operands::Branch,
-        Op::Jalr | Op::Lb | Op::Lh | Op::Lw | Op::Ld | Op::Lbu | Op::Lhu | Op::Lwu => Operands::Load,
+        Op::Jalr | Op::Lb | Op::Lh | Op::Lw | Op::Ld | Op::Lbu | Op::Lhu | Op::Lwu =>
+            Operands::Load,
         Op::Sb | Op::Sh | Op::Sw | Op::Sd => Operands::Store,
         Op::Addi | Op::Slti | Op::Sltiu | Op::Xori | Op::Ori | Op::Andi => Operands::Immediate,
-        Op::Slli | Op::Srli | Op::Srai | Op::Addiw | Op::Slliw | Op::Srliw | Op::Sraiw => Operands::Immediate,
+        Op::Slli | Op::Srli | Op::Srai | Op::Addiw | Op::Slliw | Op::Srliw | Op::Sraiw =>
+            Operands::Immediate,
         Op::LrW | Op::LrD => Operands::Reserved,
         Op::ScW | Op::ScD => Operands::Atomic,
         Op::Fence => Operands::Ordered,
@@ -58,7 +61,8 @@ fn register(number: u8) -> &'static str {
 }
 
 fn accesses(number: i64) -> &'static str {
-    usize::try_from(number & 15).ok().and_then(|n| ACCESSES.get(n).copied()).unwrap_or("?")
+    let set = (number.cast_unsigned() & 15) as usize;
+    ACCESSES.get(set).copied().unwrap_or("?")
 }
 
 // What follows the name of an atomic, by its aq and rl bits.
@@ -89,13 +93,21 @@ fn write_fence<W: fmt::Write>(imm: i64, f: &mut fmt::Formatter<W>) -> fmt::Resul
     }
 }
 
-fn write_operands<W: fmt::Write>(instr: &Instr, name: &str, f: &mut fmt::Formatter<W>) -> fmt::Result {
+fn write_operands<W: fmt::Write>(
+    instr: &Instr,
+    name: &str,
+    f: &mut fmt::Formatter<W>,
+) -> fmt::Result {
     let rd = register(instr.rd);
     let rs1 = register(instr.rs1);
     let rs2 = register(instr.rs2);
     let imm = instr.imm;
     match operands_of(instr.op) {
-        Operands::Upper => write!(f, "{name} {rd}, {:#x}", imm.cast_unsigned() >> 12 & 0xf_ffff),
+        Operands::Upper => write!(
+            f,
+            "{name} {rd}, {:#x}",
+            imm.cast_unsigned() >> 12 & 0xf_ffff
+        ),
         Operands::Jump => write!(f, "{name} {rd}, . + {imm}"),
         Operands::Branch => write!(f, "{name} {rs1}, {rs2}, . + {imm}"),
         Operands::Load => write!(f, "{name} {rd}, {imm}({rs1})"),

@@ -60,7 +60,10 @@ fn check_files(rt: &(impl Print + AllocGlobal + Files)) -> Result<()> {
     let text = std::fs::read_to_string(rt, "alu.txt").context("alu.txt")?;
     let results = check_results(rt, text.as_str())?;
     println!(rt; "results: {} of {} agree", results.agree, results.lines)?;
-    ensure!(words.agree == words.lines && results.agree == results.lines, "not all agree");
+    ensure!(
+        words.agree == words.lines && results.agree == results.lines,
+        "not all agree"
+    );
     Ok(())
 }
 
@@ -68,15 +71,25 @@ fn time_decode(rt: &(impl Print + AllocGlobal + Files + Clock), rounds: u32) -> 
     let text = std::fs::read_to_string(rt, "words.txt").context("words.txt")?;
     let words = words::all(rt.alloc(), text.as_str())?;
     let timed = timing::decode_all(rt, words.as_slice(), rounds)?;
-    println!(rt; "{} decodes, checksum {:016x}", timed.decodes, timed.checksum)?;
-    println!(rt; "{}.{:02} ns each", timed.hundredths / 100, timed.hundredths % 100)?;
+    println!(rt;
+        "{} decodes, checksum {:016x}",
+        timed.decodes, timed.checksum
+    )?;
+    println!(rt;
+        "{}.{:02} ns each",
+        timed.hundredths / 100,
+        timed.hundredths % 100
+    )?;
     Ok(())
 }
 
 fn main(rt: HostRuntime) -> Result<()> {
     match env::args(&rt)?.nth(1) {
         Some(rounds) => {
-            let rounds = rounds.as_str().parse::<u32>().context("the argument is a number of rounds")?;
+            let rounds = rounds
+                .as_str()
+                .parse::<u32>()
+                .context("the argument is a number of rounds")?;
             time_decode(&rt, rounds)
         }
         None => check_files(&rt),

@@ -1,11 +1,12 @@
 //! Lines of a mnemonic, two operands and a result, the numbers in hexadecimal of 64 bits.
-ghost use Rattle.std.specs.Prelude.{◌≡◌};
+ghost use Rattle.std.specs.Prelude.{◌≡◌, ◌+◌, ◌*◌, ◌/◌, ◌^◌, ◌<◌};
 ghost use Rattle.rv_vectors.specs.Results.{result_of};
 
 use crate::names::op_named;
-use rv_alu::{alu, amo, is_amo, is_arithmetic};
+use rv_alu::{alu, amo, is_amo, is_arithmetic, is_word_amo};
 use sh_types::Op;
 
+#[derive(Clone, Copy)]
 struct Line {
     op: Op,
     a: u64,
@@ -27,21 +28,12 @@ fn parse(line: &str) -> Option<Line> {
     })
 }
 
-fn is_word_amo(op: Op) -> bool
-    ensures { result ≡ is_word_amo op }
+// The doubleword whose low half is another word.
+fn with_low_word(old: u64, word: u64) -> u64
+    requires { word < 2 ^ 32 }
+    ensures { result ≡ 2 ^ 32 * (old / 2 ^ 32) + word }
 {
-    matches!(
-        op,
-        Op::AmoswapW
-            | Op::AmoaddW
-            | Op::AmoxorW
-            | Op::AmoandW
-            | Op::AmoorW
-            | Op::AmominW
-            | Op::AmomaxW
-            | Op::AmominuW
-            | Op::AmomaxuW
-    )
+    word | old >> 32 << 32
 }
 
 /// What an arithmetic instruction puts into rd, or the doubleword that an atomic leaves where `a` was, of which a word
@@ -52,7 +44,7 @@ fn result_of(op: Op, a: u64, b: u64) -> Option<u64>
     if is_arithmetic(op) {
         Some(alu(op, a, b))
     } else if is_word_amo(op) {
-        Some(a >> 32 << 32 | amo(op, a, b))
+        Some(with_low_word(a, amo(op, a, b)))
     } else if is_amo(op) {
         Some(amo(op, a, b))
     } else {
