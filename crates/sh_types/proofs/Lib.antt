@@ -1,3 +1,4 @@
+pub mod Copied
 pub mod FormWords
 pub mod MachineWords
 pub mod OneInstr

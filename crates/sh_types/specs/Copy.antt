@@ -1,6 +1,6 @@
 -- The copy of a layout: the words of the image at their new places, with direct calls and jumps retargeted and
 -- with the forms that only copies have. This project's own.
-use Rattle.std.specs.Prelude.{ℕ, ℤ, pos, zero, suc, ◌+◌, ◌*◌, ◌/◌, ◌%◌, ◌^◌, ◌<◌, ◌≤◌, ◌≡◌, ◌==◌, ◌&&◌, ◌-ℤ◌, nat_lt, Bool, true, false, Option, Some, None, List, map, slice_index, if◌then◌else◌, length}
+use Rattle.std.specs.Prelude.{ℕ, ℤ, pos, zero, suc, ◌+◌, ◌*◌, ◌/◌, ◌%◌, ◌^◌, ◌≤◌, ◌≡◌, ◌==◌, ◌&&◌, ◌-ℤ◌, nat_lt, Bool, true, false, Option, Some, None, List, map, slice_index, if◌then◌else◌, length}
 use Rattle.std.specs.Int.{cast_unsigned}
 use Rattle.std.specs.List.{range_with_len, list_all}
 use mir.Syntax.{w64}
@@ -13,7 +13,7 @@ use Rattle.sh_types.specs.declared.code.FrameState.{FrameState}
 use Rattle.sh_types.specs.declared.code.Image.{Image}
 use Rattle.sh_types.specs.declared.instructions.Instr.{Instr}
 use Rattle.sh_types.specs.declared.instructions.Op.{Op}
-use Rattle.sh_types.specs.declared.instructions.Op.TheVariants.{Jal, Ld, Sd}
+use Rattle.sh_types.specs.declared.instructions.Op.TheVariants.{Jal, Jalr, Ld, Sd}
 use Rattle.sh_types.specs.declared.instructions.XInstr.TheVariants.{Lit, Sra, Lra, Tjalr}
 use Rattle.sh_types.specs.declared.layouts.Layout.{Layout}
 use Rattle.sh_types.specs.declared.layouts.CodeCopy.{CodeCopy}
@@ -136,7 +136,14 @@ goes_to n (DirectCall g) = nat_lt g n
 goes_to n (DirectTail g) = nat_lt g n
 goes_to n _ = true
 
--- direct calls and jumps lead to functions, and the literals are few enough for their numbers to be written
+abbrev pub is_through : Site → Bool
+is_through IndirectCall = true
+is_through IndirectTail = true
+is_through _ = false
+
+-- direct calls and jumps lead to functions, the literals are few enough for their numbers to be written, and each
+-- indirect call or jump is a JALR
 pub record IsCopyable (image : Image) : Type 0 where
   pub goes : list_all (λ sites. list_all (goes_to (length image.functions)) sites) image.sites ≡ true
   pub literals : literals_below image (length image.functions) ≤ 131072
+  pub through : (p : Pair) (i : Instr) → is_through (site_at image p) ≡ true → decoded (word_at image p) ≡ Some i → i.op ≡ Jalr

@@ -1,0 +1,5 @@
+pub mod Draws
+pub mod Cell
+pub mod Order
+pub mod Spots
+pub mod Layout
