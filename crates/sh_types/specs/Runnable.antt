@@ -1,5 +1,5 @@
 -- The images that a machine can be made of.
-use Rattle.std.specs.Prelude.{◌≡◌, ◌<◌, List, [], ◌∷◌, length}
+use Rattle.std.specs.Prelude.{◌≡◌, ◌<◌, [], ◌∷◌, length}
 use Rattle.sh_types.specs.declared.code.Image.{Image}
 use Rattle.sh_types.specs.Copy.{IsCopyable}
 use Rattle.sh_types.specs.Image.{sizes_of, first_stack}
