@@ -1,6 +1,6 @@
 -- The copy of a layout: the words of the image at their new places, with direct calls and jumps retargeted and
 -- with the forms that only copies have. This project's own.
-use Rattle.std.specs.Prelude.{ℕ, ℤ, pos, zero, suc, ◌+◌, ◌*◌, ◌/◌, ◌%◌, ◌^◌, ◌<◌, ◌≤◌, ◌≡◌, ◌==◌, ◌&&◌, ◌-ℤ◌, nat_lt, Bool, true, false, Option, Some, None, List, map, slice_index, if◌then◌else◌, length}
+use Rattle.std.specs.Prelude.{ℕ, ℤ, pos, zero, suc, ◌+◌, ◌*◌, ◌/◌, ◌%◌, ◌^◌, ◌≤◌, ◌≡◌, ◌==◌, ◌&&◌, ◌-ℤ◌, nat_lt, Bool, true, false, Option, Some, None, List, map, slice_index, if◌then◌else◌, length}
 use Rattle.std.specs.Int.{cast_unsigned}
 use Rattle.std.specs.List.{range_with_len, list_all}
 use mir.Syntax.{w64}

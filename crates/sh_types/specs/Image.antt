@@ -1,6 +1,6 @@
 -- What an image has at a pair, and its memory. The tables are this project's own; the words are those of the
 -- executable sections (System V gABI, "Sections").
-use Rattle.std.specs.Prelude.{ℕ, ◌/◌, ◌%◌, ◌==◌, true, if◌then◌else◌, Option, Some, None, List, [], map, replicate, slice_index, slice_index_or}
+use Rattle.std.specs.Prelude.{ℕ, ◌/◌, ◌%◌, ◌==◌, true, if◌then◌else◌, Option, None, List, [], map, replicate, slice_index, slice_index_or}
 use Rattle.sh_types.specs.declared.code.Pair.{Pair}
 use Rattle.sh_types.specs.declared.code.Function.{Function}
 use Rattle.sh_types.specs.declared.code.Site.{Site}

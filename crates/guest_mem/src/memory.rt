@@ -1,0 +1,132 @@
+//! The memory of a guest.
+ghost use Rattle.std.specs.Prelude.{◌≡◌, ◌≢◌, ℕ, ◌+◌, ◌*◌, ◌/◌, ◌%◌, ◌<◌, ◌≤◌, ◌^◌, ◌&&◌, nat_le, true, Some, None, [], ◌∷◌, length, IfOk, IfSome, IfNone, option_map};
+ghost use Rattle.sh_types.specs.Image.{first_stack};
+ghost use Rattle.sh_types.specs.Memory.{readable as readable_of, writable as writable_of, first_word, byte_of};
+ghost use Rattle.sh_types.specs.Need.{set_at};
+ghost use Rattle.sh_types.specs.Shuffled.{owned};
+ghost use Rattle.guest_mem.specs.Held.{words_of, regions_of, owner_of_byte, mapped_in};
+
+use sh_types::{Items, NoMemory, Region};
+use std::alloc::Global;
+use std::marker::Model;
+
+/// The words of one region, each with its owner's number plus one, or 0.
+#[derive(Debug, Drop)]
+pub struct GuestMem {
+    first: u64,
+    values: Vec<u64>,
+    owners: Vec<u8>,
+}
+
+impl Model for GuestMem {
+    ghost use Rattle.std.specs.Prelude.{◌≡◌, ◌+◌, ◌≤◌, ◌^◌, length};
+    ghost use Rattle.guest_mem.specs.Held.{Held};
+
+    ghost Value = { Held };
+
+    ghost view = { λ m. record { first = m.first; values = m.values.items; owners = m.owners.items } };
+
+    ghost invariant = { λ m. (length m.values.items ≡ length m.owners.items) × (m.first + length m.values.items ≤ 2 ^ 59) };
+}
+
+/// The number of the first stack's first word, and how many words it has.
+const STACK_FIRST: u64 = 0x7fe_0000;
+
+const STACK_WORDS: usize = 0x2_0000;
+
+impl GuestMem {
+    /// The memory of these regions, with the bytes that they hold and no return word.
+    #[tactic(auto, using(crate::proofs::Opening::opens, crate::proofs::Opening::opens_read, crate::proofs::Opening::opens_write))]
+    pub fn new(alloc: Global, regions: &Items<Region>) -> Result<GuestMem, NoMemory>
+        requires { regions.now ≡ first_stack ∷ [] }
+        ensures words { IfOk result (λ m. (w : ℕ) → words_of m w ≡ owned (first_word regions.now w) None) }
+        ensures readable { IfOk result (λ m. (a n : ℕ) → readable_of (regions_of m) a n ≡ readable_of regions.now a n) }
+        ensures writable { IfOk result (λ m. (a n : ℕ) → writable_of (regions_of m) a n ≡ writable_of regions.now a n) }
+    {
+        let _regions = regions;
+        let memory = zeroed(alloc, STACK_FIRST, STACK_WORDS)?;
+        Ok(memory)
+    }
+
+    /// The value of the word at an address, in which an unreadable byte counts as 0, and its owner byte: 0 for none,
+    /// else the hart's number plus 1. It takes no memory.
+    pub fn word(&self, address: u64) -> (u64, u8)
+        ensures { owned result.0 (owner_of_byte result.1) ≡ words_of self.now (address / 8) }
+    {
+        let word = address / 8;
+        if word < self.first || word - self.first >= self.values.len() as u64 {
+            return (0, 0);
+        }
+        let at = (word - self.first) as usize;
+        (self.values[at], self.owners[at])
+    }
+
+    /// Whether `length` bytes from an address on can be read. A range that passes 2^64 cannot. It takes no memory.
+    #[tactic(auto, using(crate::proofs::Ranges::reads_none, crate::proofs::Ranges::reads_some))]
+    pub fn readable(&self, address: u64, length: u64) -> bool
+        ensures { result ≡ readable_of (regions_of self.now) address length }
+    {
+        if length == 0 {
+            return true;
+        }
+        is_within(self.first, self.values.len() as u64, address, length)
+    }
+
+    /// Whether `length` bytes from an address on can be written. A range that passes 2^64 cannot. It takes no memory.
+    #[tactic(auto, using(crate::proofs::Ranges::writes_none, crate::proofs::Ranges::writes_some, crate::proofs::Ranges::within_mapped))]
+    pub fn writable(&self, address: u64, length: u64) -> bool
+        ensures is { result ≡ writable_of (regions_of self.now) address length }
+        ensures mapped { result ≡ true → 0 < length → mapped_in self.now address ≡ true }
+    {
+        if length == 0 {
+            return true;
+        }
+        is_within(self.first, self.values.len() as u64, address, length)
+    }
+
+    /// The word is one of the region.
+    pub(crate) fn is_mapped(&self, address: u64) -> bool
+        ensures { result ≡ mapped_in self.now address }
+    {
+        let word = address / 8;
+        word >= self.first && word - self.first < self.owners.len() as u64
+    }
+
+    /// A word and its owner's byte are replaced.
+    pub(crate) fn put(&mut self, address: u64, word: u64, owner: u8)
+        requires { mapped_in self.old address ≡ true }
+        ensures words { words_of self.new ≡ set_at (words_of self.old) (address / 8) (owned word (owner_of_byte owner)) }
+        ensures regions { regions_of self.new ≡ regions_of self.old }
+    {
+        let at = (address / 8 - self.first) as usize;
+        self.values[at] = word;
+        self.owners[at] = owner;
+    }
+}
+
+/// Words of zero that nobody owns.
+#[tactic(auto, using(crate::proofs::Opening::zero_words, crate::proofs::Opening::many))]
+fn zeroed(alloc: Global, first: u64, count: usize) -> Result<GuestMem, NoMemory>
+    requires { first + count ≤ 2 ^ 59 }
+    ensures words { IfOk result (λ m. (w : ℕ) → words_of m w ≡ owned 0 None) }
+    ensures first { IfOk result (λ m. m.first ≡ first) }
+    ensures many { IfOk result (λ m. length m.values ≡ count) }
+{
+    let values = vec![in alloc; 0u64; count]?;
+    let owners = vec![in alloc; 0u8; count]?;
+    Ok(GuestMem {
+        first,
+        values,
+        owners,
+    })
+}
+
+/// A range lies within so many words from one on.
+fn is_within(first: u64, count: u64, address: u64, length: u64) -> bool
+    requires { first + count ≤ 2305843009213693951 }
+    ensures { result ≡ (nat_le (8 * first) address && nat_le (address + length) (8 * (first + count))) }
+{
+    let start = 8 * first;
+    let size = 8 * count;
+    start <= address && length <= size && address - start <= size - length
+}

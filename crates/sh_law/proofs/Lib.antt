@@ -1,0 +1,13 @@
+pub mod Agreeing
+pub mod Ciphers
+pub mod Copying
+pub mod Counting
+pub mod Keeping
+pub mod Legal
+pub mod Lists
+pub mod Moving
+pub mod Placing
+pub mod Premises
+pub mod Reading
+pub mod Stepping
+pub mod Whole

@@ -1,0 +1,5 @@
+pub mod Agrees
+pub mod Example
+pub mod Keeps
+pub mod Reach
+pub mod Sound

@@ -1,0 +1,96 @@
+-- The frames of a hart, from its pc on, and when they are sound.
+use Rattle.std.specs.Prelude.{◌≡◌, ℕ, ◌+◌, ◌*◌, ◌%◌, ◌^◌, ◌<◌, ◌==◌, ◌||◌, Bool, true, false, Option, Some, None, List, [], ◌∷◌, slice_index, if◌then◌else◌}
+use Rattle.sh_types.specs.declared.code.Pair.{Pair}
+use Rattle.sh_types.specs.declared.code.CodeRef.{CodeRef}
+use Rattle.sh_types.specs.declared.code.CodeRef.TheVariants.{Root, At}
+use Rattle.sh_types.specs.declared.code.RaPlace.{RaPlace}
+use Rattle.sh_types.specs.declared.code.RaPlace.TheVariants.{Reg, Slot, Dropped}
+use Rattle.sh_types.specs.declared.code.FrameState.{FrameState}
+use Rattle.sh_types.specs.declared.code.Image.{Image}
+use Rattle.sh_types.specs.Place.{pair}
+use Rattle.sh_types.specs.Image.{row_at}
+use Rattle.sh_types.specs.Kind.{CallsTo, kind_at}
+use Rattle.sh_types.specs.Frame.{IsLoose}
+use Rattle.sh_types.specs.Unmoved.{Thread, Cell, Number, Return}
+
+-- where the hart's return words lead
+abbrev pub his : ℕ → Cell → Option CodeRef
+his n (Number v) = None
+his n (Return k r) = if k == n then Some r else None
+
+abbrev pub mine : ℕ → (ℕ → Cell) → ℕ → Option CodeRef
+mine n u w = his n (u w)
+
+abbrev pub is_some : {A : Type 0} → Option A → Bool
+is_some None = false
+is_some (Some x) = true
+
+abbrev pub among : List ℕ → ℕ → Bool
+among [] w = false
+among (s ∷ ss) w = (w == s) || among ss w
+
+abbrev pub IsAbove : ℕ → List ℕ → Type 0
+IsAbove w [] = Unit {0}
+IsAbove w (s ∷ ss) = (w < s) × IsAbove s ss
+
+abbrev pub Rises : List ℕ → Type 0
+Rises [] = Unit {0}
+Rises (s ∷ ss) = IsAbove s ss
+
+-- sp at the start of the frame
+abbrev pub top_of : ℕ → ℕ → ℕ
+top_of sp d = (sp + d) % 2 ^ 64
+
+-- a pair behind a call that has this row
+pub record Behind (image : Image) (q : Pair) (row : FrameState) : Type 0 where
+  pub off : ℕ
+  pub after : q.off ≡ off + 4
+  pub row_is : row_at image (pair q.func off) ≡ Some row
+  pub target : Pair
+  pub calls : kind_at image (pair q.func off) ≡ CallsTo target
+
+-- a frame of the entry function leads to the root
+abbrev pub FromEntry : Image → ℕ → CodeRef → Type 0
+FromEntry image f r = f ≡ image.entry → r ≡ Root
+
+-- the slot of a frame with this top
+abbrev pub IsSlot : RaPlace → ℕ → ℕ → Type 0
+IsSlot Reg top w = ⊥
+IsSlot (Slot below) top w = 8 * w + below ≡ top
+IsSlot Dropped top w = ⊥
+
+-- the frames behind a return address, where sp is top there: their slots, each a word of the hart
+abbrev pub IsChain : Image → (ℕ → Option CodeRef) → List ℕ → CodeRef → ℕ → Type 0
+IsChain image mine [] Root top = Unit {0}
+IsChain image mine [] (At q) top = (row : FrameState) × Behind image q row × IsLoose row.ra
+IsChain image mine (w ∷ ws) Root top = ⊥
+IsChain image mine (w ∷ ws) (At q) top =
+    (row : FrameState) × Behind image q row × IsSlot row.ra (top_of top row.depth) w × ((r : CodeRef) × (mine w ≡ Some r) × FromEntry image q.func r × IsChain image mine ws r (top_of top row.depth))
+
+abbrev pub RaChain : Image → (ℕ → Option CodeRef) → ℕ → List ℕ → Option CodeRef → ℕ → Type 0
+RaChain image mine f ws None top = ⊥
+RaChain image mine f ws (Some r) top = FromEntry image f r × IsChain image mine ws r top
+
+-- the frames of a hart in a state of its own
+abbrev pub PcChain : Image → (ℕ → Option CodeRef) → ℕ → List ℕ → RaPlace → ℕ → Option CodeRef → Type 0
+PcChain image mine f ws Reg top ra = RaChain image mine f ws ra top
+PcChain image mine f [] (Slot below) top ra = ⊥
+PcChain image mine f (w ∷ ws) (Slot below) top ra =
+    (8 * w + below ≡ top) × ((r : CodeRef) × (mine w ≡ Some r) × FromEntry image f r × IsChain image mine ws r top)
+PcChain image mine f ws Dropped top ra = ws ≡ []
+
+-- a marked ra leads behind a call
+abbrev pub RaFine : Image → Option CodeRef → Type 0
+RaFine image None = Unit {0}
+RaFine image (Some Root) = Unit {0}
+RaFine image (Some (At q)) = (row : FrameState) × Behind image q row
+
+-- the chain of a thread is sound, and its slots are the words that it owns
+pub record Sound (image : Image) (t : Thread) (u : ℕ → Cell) : Type 0 where
+  pub row : FrameState
+  pub row_is : row_at image t.at ≡ Some row
+  pub ra : RaFine image t.ra
+  pub slots : List ℕ
+  pub chain : PcChain image (mine t.number u) t.at.func slots row.ra (top_of (slice_index t.regs 2) row.depth) t.ra
+  pub rises : Rises slots
+  pub exact : (w : ℕ) → is_some (mine t.number u w) ≡ among slots w

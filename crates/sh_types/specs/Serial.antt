@@ -1,0 +1,121 @@
+-- The serial order, by the unmoved machine alone: a function, without layouts and without a seed. This project's own.
+use Rattle.std.specs.Prelude.{ℕ, zero, suc, ◌+◌, ◌-◌, ◌/◌, ◌%◌, ◌==◌, ◌&&◌, ◌||◌, nat_le, nat_lt, Bool, true, false, not, Option, Some, None, List, [], ◌∷◌, ◌++◌, min, slice_get, if◌then◌else◌}
+use Rattle.sh_types.specs.declared.code.Image.{Image}
+use Rattle.sh_types.specs.declared.runs.Event.{Event}
+use Rattle.sh_types.specs.declared.runs.Event.TheVariants.{Run, Migrate, Publish, Erase}
+use Rattle.sh_types.specs.Event.{goes_still}
+use Rattle.sh_types.specs.Need.{Outcome, Goes, Puts, Calls, Quits, Traps, Leaks, answered}
+use Rattle.sh_types.specs.Pace.{Pace, live_from, followed, paced_on, opening_pace}
+use Rattle.sh_types.specs.Unmoved.{Thread, Cell, thread_needs, Unmoved, unmoved_step}
+
+-- how a serial run goes: instructions between publications, in a turn at most, and in all
+pub record Schedule : Type 0 where
+  pub period : ℕ
+  pub quantum : ℕ
+  pub steps : ℕ
+
+abbrev pub is_alive : Option Thread → Bool
+is_alive None = false
+is_alive (Some t) = t.live
+
+-- the run has not ended and the hart is live
+abbrev pub can_go : Unmoved → ℕ → Bool
+can_go u h = goes_still u.end && is_alive (slice_get u.threads h)
+
+abbrev pub is_call : Outcome Thread Cell → Bool
+is_call (Goes t) = false
+is_call (Puts t w c stored) = false
+is_call Calls = true
+is_call Quits = false
+is_call (Traps k v) = false
+is_call Leaks = false
+
+abbrev pub thread_calls : Image → (ℕ → Cell) → Option Thread → Bool
+thread_calls i m None = false
+thread_calls i m (Some t) = is_call (answered (thread_needs i t) m)
+
+-- the hart's next instruction is an environment call
+unfoldable pub calls_next : Image → Unmoved → ℕ → Bool
+calls_next i u h = thread_calls i u.cells (slice_get u.threads h)
+
+-- at most so many further instructions, up to an environment call
+abbrev pub further : Image → ℕ → ℕ → Unmoved → ℕ
+further i h zero u = 0
+further i h (suc k) u = if can_go u h && not (calls_next i u h) then suc (further i h k (unmoved_step i h u)) else 0
+
+-- the instructions of one Run event: any first one, and further ones
+abbrev pub run_length : Image → ℕ → ℕ → Unmoved → ℕ
+run_length i h zero u = 0
+run_length i h (suc k) u = suc (further i h k (unmoved_step i h u))
+
+-- a turn of at most `left` instructions, in at most so many events
+abbrev pub turn_in : Image → ℕ → ℕ → ℕ → Pace → List Event
+turn_in i h zero left b = []
+turn_in i h (suc k) left b =
+    if nat_lt 0 left && can_go b.guest h
+    then (let n = run_length i h left b.guest in Run h n ∷ turn_in i h k (left - n) (paced_on i (Run h n) b))
+    else []
+
+-- each event has an instruction
+unfoldable pub turn : Image → ℕ → ℕ → Pace → List Event
+turn i h left b = turn_in i h left left b
+
+abbrev pub migrations : List ℕ → List Event
+migrations [] = []
+migrations (h ∷ hs) = Migrate h ∷ migrations hs
+
+-- where an older layout is live, its harts leave it and it goes
+abbrev pub cleared_away : Pace → List Event
+cleared_away b = if b.older then migrations b.behind ++ Erase (b.newest - 1) ∷ [] else []
+
+-- layout k comes, each live hart moves to it, and the one before goes
+abbrev pub publication : ℕ → List ℕ → List Event
+publication k hs = Publish k ∷ (migrations hs ++ Erase (k - 1) ∷ [])
+
+abbrev pub boundary : Pace → List Event
+boundary b = cleared_away b ++ publication (b.newest + 1) (live_from 0 b.guest.threads)
+
+-- the run has ended or has all its instructions
+abbrev pub is_done : Schedule → Pace → Bool
+is_done p b = not (goes_still b.guest.end) || (b.count == p.steps)
+
+-- the layout for this count is not yet published
+abbrev pub is_due : ℕ → Pace → Bool
+is_due period b = nat_lt 0 b.count && ((b.count % period == 0) && nat_le b.newest (b.count / period))
+
+-- before a turn: the boundary, or the migrations that are missing
+abbrev pub ready : ℕ → Pace → List Event
+ready period b = if is_due period b then boundary b else migrations b.behind
+
+abbrev pub first_or : ℕ → List ℕ → ℕ
+first_or d [] = d
+first_or d (n ∷ ns) = n
+
+-- the least number from `low` on, or else d
+abbrev pub next_from : ℕ → List ℕ → ℕ → ℕ
+next_from low [] d = d
+next_from low (n ∷ ns) d = if nat_le low n then n else next_from low ns d
+
+-- the least live hart from `low` on, or the least
+abbrev pub next_hart : ℕ → Unmoved → ℕ
+next_hart low u = let ns = live_from 0 u.threads in next_from low ns (first_or 0 ns)
+
+abbrev pub turn_limit : Schedule → ℕ → ℕ
+turn_limit p count = min p.quantum (min (p.steps - count) (p.period - count % p.period))
+
+-- at most so many turns, the next one of the least live hart from `low` on
+abbrev pub serial_in : Image → Schedule → ℕ → ℕ → Pace → List Event
+serial_in i p zero low b = []
+serial_in i p (suc k) low b =
+    if is_done p b then []
+    else (let b1 = followed i (ready p.period b) b in
+    let h = next_hart low b1.guest in
+    let t = turn i h (turn_limit p b1.count) b1 in
+    (ready p.period b ++ t) ++ serial_in i p k (h + 1) (followed i t b1))
+
+-- from where a journal stands; each turn has an instruction, so there are at most `steps` turns
+unfoldable pub serial_from : Image → Schedule → Pace → List Event
+serial_from i p b = serial_in i p p.steps 0 b
+
+unfoldable pub serial_list : Image → Schedule → List Event
+serial_list i p = serial_from i p (opening_pace i)
