@@ -167,14 +167,18 @@ are_thin_functions starts entry words = list_all (λ f. is_thin_function starts 
 
 -- ---- which files are thin
 
--- the functions are few, lie one behind the other in the whole code, are entered at the start of one, and have
--- the words of a thin file
+-- the entry is the start of a function, and each function has the words of a thin file
+unfoldable pub are_entered : List ℕ → List RawSymbol → Bool
+are_entered b functions =
+    is_some (number_of (starts_of functions) (entry_of b))
+    && are_thin_functions (starts_of functions) (entry_of b) (map (words_of b) functions)
+
+-- the functions are few, and lie one behind the other in the whole code
 unfoldable pub has_thin_code : List ℕ → List RawSymbol → Bool
 has_thin_code b functions =
     nat_le (length functions) 16384
     && follow 0x10000 (0x10000 + code_size b) functions
-    && is_some (number_of (starts_of functions) (entry_of b))
-    && are_thin_functions (starts_of functions) (entry_of b) (map (words_of b) functions)
+    && are_entered b functions
 
 unfoldable pub is_thin : List ℕ → Bool
 is_thin b = has_thin_header b && has_thin_programs b && has_thin_symbols b && has_thin_code b (thin_functions b)
