@@ -3,9 +3,7 @@
 -- Header", "Symbol Table") and the RISC-V psABI ("File Header"); the words are those of the RISC-V Unprivileged
 -- ISA ("RV32I Base Integer Instruction Set"), with ra as x1 and sp as x2.
 use Rattle.std.specs.Prelude.{ℕ, ℤ, pos, negsuc, ◌+◌, ◌-◌, ◌/◌, ◌%◌, ◌^◌, ◌==◌, ◌&&◌, ◌||◌, ◌-ℤ◌, nat_lt, nat_le, not, Bool, true, false, Option, Some, None, is_some, unwrap_or, List, [], ◌∷◌, length, filter, map, if◌then◌else◌}
-use Rattle.std.specs.Int.{cast_unsigned}
 use Rattle.std.specs.List.{list_all, position_from, zip}
-use mir.Syntax.{w64}
 use Rattle.sh_types.specs.declared.code.Function.{Function}
 use Rattle.sh_types.specs.declared.code.Site.{Site}
 use Rattle.sh_types.specs.declared.code.Site.TheVariants.{Plain, DirectCall, ReturnLike, Environment}
@@ -21,6 +19,7 @@ use Rattle.sh_types.specs.declared.instructions.Op.TheVariants.{Lui, Addi, Add, 
 use Rattle.sh_types.specs.Decoding.{decoded}
 use Rattle.sh_types.specs.Elf.{number_at, lies_in, has, magic_of, class_of, order_of, ident_version_of, type_of, machine_of, version_of, entry_of, program_at, section_at, flags_of, program_count, section_count, places, program, head_at, raw_symbol}
 use Rattle.sh_types.specs.Image.{first_stack}
+use Rattle.sh_types.specs.Need.{plus_imm}
 
 -- ---- the header and its tables
 
@@ -120,7 +119,7 @@ moves_sp i = is_addi i.op && (i.rd == 2) && (i.rs1 == 2)
 
 -- where the jump at an address goes
 abbrev pub jump_target : ℕ → Instr → ℕ
-jump_target address i = (address + cast_unsigned w64 i.imm) % 2 ^ 64
+jump_target address i = plus_imm address i.imm
 
 -- the number of the function that the jump at an address goes to
 abbrev pub callee_of : List ℕ → ℕ → Instr → Option ℕ

@@ -19,7 +19,7 @@ found_from k [] i address lt e others = absurd (omega arith)
 found_from k (s ∷ ss) zero address lt e others = rw (is_here s address e) (ap Some (omega arith))
 found_from k (s ∷ ss) (suc i) address lt e others =
     rw (is_not s address (others zero (omega arith)))
-      (found_from (k + 1) ss i address (omega arith) e (λ j l. others (suc j) (omega arith)) ∙ ap Some (omega arith))
+    (found_from (k + 1) ss i address (omega arith) e (λ j l. others (suc j) (omega arith)) ∙ ap Some (omega arith))
 
 missing_from : (k : ℕ) (starts : List ℕ) (address : ℕ) → ((j : ℕ) → j < length starts → get_or starts j 0 ≢ address) → position_from (λ start. start == address) k starts ≡ None
 missing_from k [] address others = refl

@@ -8,13 +8,19 @@ use sh_types::Head;
 
 /// \x7fELF, with the lowest byte first.
 const MAGIC: u32 = 0x464c_457f;
+
 const ELFCLASS64: u8 = 2;
+
 const ELFDATA2LSB: u8 = 1;
+
 const EV_CURRENT: u8 = 1;
+
 const ET_EXEC: u16 = 2;
+
 const EM_RISCV: u16 = 243;
 /// RVC, the two bits of FLOAT_ABI, and RVE (RISC-V psABI, "File Header").
 const REFUSED_FLAGS: u32 = 0xf;
+
 const PT_LOAD: u32 = 1;
 
 #[tactic(auto, unfolding(sh_types::specs::Thin::is_riscv_executable))]

@@ -151,8 +151,8 @@ fn image_in(alloc: Global, bytes: &[u8]) -> Result<Option<Image>, AllocError>
 }
 
 /// The image of the file with these bytes where it is thin, and None where it is not: a short file, and one whose
-/// tables point outside, too. A machine can be made of the image. Names are empty. The file's code is read once or
-/// twice, and the target of each call is searched among the starts.
+/// tables point outside, too. A machine can be made of the image. The target of a call is found by a search among
+/// the starts, so the time is that of the file's size times the logarithm of the number of functions.
 #[tactic(auto, using(crate::proofs::Runs::found_runs))]
 pub fn read_thin(alloc: Global, bytes: &[u8]) -> Result<Option<Image>, NoMemory>
     ensures is { IfOk result (λ found. found ≡ thin_image bytes.now) }

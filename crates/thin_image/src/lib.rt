@@ -11,3 +11,6 @@ mod symbols;
 mod words;
 
 pub use image::read_thin;
+
+#[cfg(test)]
+mod tests;

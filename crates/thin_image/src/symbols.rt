@@ -124,11 +124,7 @@ fn words_from(
 }
 
 #[tactic(auto, unfolding(sh_types::specs::Thin::words_of))]
-fn words_of(
-    alloc: Global,
-    bytes: &[u8],
-    function: &RawSymbol,
-) -> Result<Items<u32>, AllocError>
+fn words_of(alloc: Global, bytes: &[u8], function: &RawSymbol) -> Result<Items<u32>, AllocError>
     requires within { IsWithin 0x10000 (0x10000 + thin.code_size bytes.now) function.now }
     requires code { 0x1000 + thin.code_size bytes.now ≤ length bytes.now }
     ensures { IfOk result (λ words. words ≡ thin.words_of bytes.now function.now) }
