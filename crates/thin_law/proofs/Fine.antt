@@ -80,6 +80,17 @@ low_at rs k r e t = by k (subst (λ rs. slice_get rs k ≡ Some r) e t)
 
 -- ---- a place with a row
 
+state_by : (rows others : List (Option FrameState)) (k : ℕ) (row : FrameState) → rows ≡ others → get_or rows k None ≡ Some row → get_or others k None ≡ Some row
+state_by rows others k row e s = subst (λ rows. get_or rows k None ≡ Some row) e s
+
+no_state : (rows : List (Option FrameState)) (k : ℕ) (row : FrameState) → rows ≡ [] → get_or rows k None ≡ Some row → ⊥
+no_state rows k row e s = let none = state_by rows [] k row e s in (cc)
+
+-- the test on the words of a function, by whether it is the entry
+thin_by : (starts : List ℕ) (entry start : ℕ) (words : List ℕ) → is_thin_function starts entry start words ≡ true → (if start == entry then are_entry_words starts entry start words else are_plain_words words) ≡ true
+unfolding is_thin_function
+thin_by starts entry start words t = t
+
 -- a word that is followed as it is to be, and whose class fits it
 record WordFits (image : Image) (p : Pair) (row : FrameState) (s : Site) (o : Option Instr) : Type 0 where
   follows : Follows image p row (word_kind image p s o)
@@ -101,14 +112,111 @@ module _ (image : Image) (starts : List ℕ) (entry : ℕ) (thin : IsThinImage i
   row_of p row e =
       let whole = row_whole image p row e in
       let at : p.off ≡ 4 * (p.off / 4) = omega (arith, whole) in
-      let row : get_or (slice_index_or image.frames p.func no_rows).rows (p.off / 4) None ≡ Some row = sym (row_there image p.func p.off (p.off / 4) at) ∙ e in
+      let state : get_or (slice_index_or image.frames p.func no_rows).rows (p.off / 4) None ≡ Some row = sym (row_there image p.func p.off (p.off / 4) at) ∙ e in
       elim (cases_lt p.func (length (sizes_of image))) [
         | inl inside ↦
             let function = thin.each p.func inside in
-            let state = subst (λ rows. get_or rows (p.off / 4) None ≡ Some _) function.rows row in
-            record { func = inside; at = at; function = function; state = state; within = state_within (Some entered) _ (p.off / 4) _ state }
-        | inr outside ↦
-            let none = subst (λ rows. get_or rows (p.off / 4) None ≡ Some _) (thin.beyond p.func outside) row in
-            absurd (cc)
+            let state = state_by _ (states_from (Some entered) (slice_index_or image.words p.func [])) (p.off / 4) row function.rows state in
+            record { func = inside; at = at; function = function; state = state; within = state_within (Some entered) (slice_index_or image.words p.func []) (p.off / 4) row state }
+        | inr outside ↦ absurd (no_state _ (p.off / 4) row (thin.beyond p.func outside) state)
       ]
 
+  -- the row at the next offset
+  next_row : (p : Pair) (row : FrameState) (words : List ℕ) (k : ℕ) → RowOf p row words k → k < length words → row_at image (next_of p) ≡ word_behind (decoded (get_or words k 0)) (Some row)
+  next_row p row words k r l =
+      row_there image p.func (p.off + 4) (suc k) (omega (arith, r.at))
+      ∙ ap (λ rows. get_or rows (suc k) None) r.function.rows
+      ∙ state_next (Some entered) words k l
+      ∙ ap (word_behind (decoded (get_or words k 0))) r.state
+
+  entry_case : (p : Pair) (row : FrameState) (o : Option Instr) (s : Site) → row_at image p ≡ Some row → IsEntryWord starts entry o s → p.func ≡ image.entry → IsOpen row → row_at image (next_of p) ≡ word_behind o (Some row) → WordFits image p row s o
+  entry_case p row None s e w en open_row n = let t = w.fits in absurd (cc)
+  entry_case p row (Some i) s e w en open_row n =
+      subst (λ s. WordFits image p row s (Some i)) (sym w.site)
+      (word_fits image p row _ i (entry_fits image p row e starts w.address entry i w.fits thin.others en open_row n))
+
+  plain_case : (p : Pair) (row : FrameState) (o : Option Instr) (address : ℕ) → row_at image p ≡ Some row → is_plain_word o ≡ true → row_at image (next_of p) ≡ word_behind o (Some row) → WordFits image p row (word_site starts address o) o
+  plain_case p row None address e t n = absurd (cc)
+  plain_case p row (Some i) address e t n = word_fits image p row _ i (plain_fits image p row e starts address i t n)
+
+  other_case : (p : Pair) (row : FrameState) (w : ℕ) (s : Site) → row_at image p ≡ Some row → IsOtherWord starts w s → row ≡ entered → row_at image (next_of p) ≡ word_behind (decoded w) (Some row) → WordFits image p row s (decoded w)
+  other_case p row w s e word en n = subst (λ s. WordFits image p row s (decoded w)) (sym word.site) (by word.fits)
+    where
+      by : (is_plain_word (decoded w) ≡ true) ⊎ (w ≡ 0x8067) → WordFits image p row (word_site starts word.address (decoded w)) (decoded w)
+      by (inl t) = plain_case p row (decoded w) word.address e t n
+      by (inr q) =
+          let instr : decoded w ≡ Some return_instr = ap decoded q ∙ return_decoded in
+          subst (λ o. WordFits image p row (word_site starts word.address o) o) (sym instr)
+          (word_fits image p row _ return_instr (return_fits image p row e starts word.address en))
+
+  -- the word at a place that is not behind the last
+  word_at_row : (p : Pair) (row : FrameState) (words : List ℕ) (k : ℕ) → row_at image p ≡ Some row → RowOf p row words k → k < length words → WordFits image p row (get_or (sites_from starts (slice_index starts p.func) words) k Plain) (decoded (get_or words k 0))
+  word_at_row p row words k e r l = by (slice_index starts p.func == entry) refl (thin_by starts entry (slice_index starts p.func) words r.function.thin)
+    where
+      n : row_at image (next_of p) ≡ word_behind (decoded (get_or words k 0)) (Some row)
+      n = next_row p row words k r l
+      by : (b : Bool) → (slice_index starts p.func == entry) ≡ b → (if b then are_entry_words starts entry (slice_index starts p.func) words else are_plain_words words) ≡ true → WordFits image p row (get_or (sites_from starts (slice_index starts p.func) words) k Plain) (decoded (get_or words k 0))
+      by true q t =
+          entry_case p row (decoded (get_or words k 0)) _ e (entry_word starts entry (slice_index starts p.func) words k t l)
+          (thin.entered_at p.func r.func (eqb-true (slice_index starts p.func) entry q))
+          (state_open (Some entered) words k row entered_open r.state) n
+      by false q t =
+          other_case p row (get_or words k 0) _ e (other_word starts (slice_index starts p.func) words k t l) (state_entered words k row t r.state).state n
+
+  inner_fits : (p : Pair) (row : FrameState) → row_at image p ≡ Some row → p.off < slice_index (sizes_of image) p.func → WordFits image p row (site_at image p) (decoded (word_at image p))
+  inner_fits p row e l =
+      let r = row_of p row e in
+      let below : p.off / 4 < length (slice_index_or image.words p.func []) = omega (arith, l, r.function.size, r.at) in
+      let site : site_at image p ≡ get_or (sites_from starts (slice_index starts p.func) (slice_index_or image.words p.func [])) (p.off / 4) Plain = ap (λ sites. get_or sites (p.off / 4) Plain) r.function.sites in
+      subst (λ s. WordFits image p row s (decoded (word_at image p))) (sym site) (word_at_row p row _ (p.off / 4) e r below)
+
+  follows : (p : Pair) (row : FrameState) → row_at image p ≡ Some row → Follows image p row (kind_at image p)
+  follows p row e = elim (cases_Bool (p.off == slice_index (sizes_of image) p.func)) [
+    | inl past ↦ subst (Follows image p row) (sym (kind_past image p past)) tt
+    | inr inner ↦
+        let r = row_of p row e in
+        let below : p.off < slice_index (sizes_of image) p.func = grind (arith, nat_tests, inner, r.function.size, r.at, r.within) in
+        subst (Follows image p row) (sym (kind_inner image p inner)) (inner_fits p row e below).follows
+  ]
+
+  inside : (p : Pair) (row : FrameState) → row_at image p ≡ Some row → IsPair (sizes_of image) p
+  inside p row e =
+      let r = row_of p row e in
+      record { func = r.func; off = omega (arith, r.at, r.within, r.function.size); whole = row_whole image p row e }
+
+  state : (p : Pair) (row : FrameState) → row_at image p ≡ Some row → IsState row
+  state p row e = let r = row_of p row e in open_state row (state_open (Some entered) _ (p.off / 4) row entered_open r.state)
+
+  first : (f : ℕ) → f < length (sizes_of image) → row_at image (pair f 0) ≡ Some entered
+  first f l =
+      let function = thin.each f l in
+      row_there image f 0 0 refl ∙ ap (λ rows. get_or rows 0 None) function.rows ∙ state_first (Some entered) (slice_index_or image.words f [])
+
+  is_fine : IsFine image
+  is_fine =
+      record {
+        entry = thin.entry_in;
+        whole = thin.whole;
+        low = λ k r e. low_at image.regions k r thin.regions e;
+        frames = record { first = first; inside = inside; states = state; follows = follows };
+        sites = λ p row e l. (inner_fits p row e l).site;
+      }
+
+-- ---- the file
+
+code_of : (b : List ℕ) → is_thin b ≡ true → has_thin_code b (thin_functions b) ≡ true
+unfolding is_thin
+code_of b t = (and_parts _ (has_thin_code b (thin_functions b)) t).1
+
+same_image : (a b : Image) → Some a ≡ Some b → a ≡ b
+same_image a b e = cc
+
+pub thin_fine : (b : List ℕ) (image : Image) → thin_image b ≡ Some image → IsFine image
+unfolding thin_image
+thin_fine b image e = by (is_thin b) refl e
+  where
+    by : (t : Bool) → is_thin b ≡ t → (if t then Some (image_of b (thin_functions b)) else None) ≡ Some image → IsFine image
+    by true t e =
+        let thin = code_image b (thin_functions b) (code_of b t) in
+        subst IsFine (same_image _ image e) (is_fine (image_of b (thin_functions b)) (starts_of (thin_functions b)) (entry_of b) thin)
+    by false t e = absurd (cc)
