@@ -1,7 +1,7 @@
 -- What each word of a thin function does to the frame, and its class.
-use Rattle.std.proofs.Common.{◌≡◌, ◌≢◌, ℕ, ℤ, zero, suc, ◌+◌, ◌<◌, ◌^◌, ◌≤◌, Bool, true, false, Option, Some, None, List, length, refl, sym, ap, ◌∙◌, subst, arith}
-use Rattle.std.specs.Prelude.{◌==◌, ◌&&◌, ◌||◌, ◌-ℤ◌, pos, slice_index, is_some, not, if◌then◌else◌}
-use Rattle.std.proofs.lemmas.Bool.{and_parts, eqb-true, cases_Bool}
+use Rattle.std.proofs.Common.{◌≡◌, ◌≢◌, ℕ, ℤ, ◌<◌, Bool, true, false, Option, Some, None, List, length, refl, sym, ap, ◌∙◌, subst, arith}
+use Rattle.std.specs.Prelude.{◌==◌, ◌&&◌, ◌||◌, ◌-ℤ◌, pos, is_some, not}
+use Rattle.std.proofs.lemmas.Bool.{and_parts, eqb-true}
 use Rattle.std.proofs.lemmas.Bool.Decides.{nat_tests}
 use Rattle.sh_types.specs.declared.code.FrameState.{FrameState}
 use Rattle.sh_types.specs.declared.code.Image.{Image}
@@ -9,22 +9,19 @@ use Rattle.sh_types.specs.declared.code.Pair.{Pair}
 use Rattle.sh_types.specs.declared.code.RaPlace.{RaPlace}
 use Rattle.sh_types.specs.declared.code.RaPlace.TheVariants.{Reg, Slot, Dropped}
 use Rattle.sh_types.specs.declared.code.Site.{Site}
-use Rattle.sh_types.specs.declared.code.Site.TheVariants.{Plain, DirectCall, ReturnLike, Environment}
 use Rattle.sh_types.specs.declared.instructions.Instr.{Instr}
 use Rattle.sh_types.specs.declared.instructions.Op.{Op}
-use Rattle.sh_types.specs.declared.instructions.Op.TheVariants.{Lui, Addi, Add, Sb, Jal, Jalr, Ecall}
+use Rattle.sh_types.specs.declared.instructions.Op.TheVariants.{Lui, Addi, Add, Sb, Jal, Ecall}
 use Rattle.sh_types.specs.Copy.{saves, restores}
-use Rattle.sh_types.specs.Decoding.{decoded, made}
+use Rattle.sh_types.specs.Decoding.{made}
 use Rattle.sh_types.specs.Fine.{SiteFits}
-use Rattle.sh_types.specs.Frame.{frame, Move, Shifts, Loses, Keeps, move_of, shift_of, IsLoose, dropped, MayDrop, Next, Shifted, To, Anew, AfterMove, Called, Follows}
-use Rattle.sh_types.specs.Image.{sizes_of, row_at, site_at, word_at}
+use Rattle.sh_types.specs.Frame.{frame, Move, Loses, Keeps, move_of, shift_of, IsLoose, dropped, MayDrop, Shifted, To, Anew, AfterMove, Follows}
+use Rattle.sh_types.specs.Image.{sizes_of, row_at}
 use Rattle.sh_types.specs.Instruction.{row_of}
-use Rattle.sh_types.specs.Kind.{Kind, CallsTo, framed_kind, plain_kind, site_kind, kind_at}
-use Rattle.sh_types.specs.Need.{plus_imm}
-use Rattle.sh_types.specs.Place.{pair}
+use Rattle.sh_types.specs.Kind.{framed_kind, plain_kind, site_kind}
 use Rattle.sh_types.specs.Thin.{computes, is_addi, is_sb, is_ecall, is_jal, is_plain, moves_sp, is_call, is_entry_instr, callee_of, jump_target, number_of, call_site, instr_site, small_depth, state_behind, entered}
 use Rattle.sh_types.specs.Unmoved.{next_of}
-use Rattle.thin_law.proofs.States.{IsOpen, IsPlain, plain_parts, plain_state, return_instr, Shift, Back, New, shifted}
+use Rattle.thin_law.proofs.States.{IsOpen, plain_parts, plain_state, return_instr, Shift, Back, New, shifted}
 
 keeps : (rd : ℕ) (m : Move) → (rd == 1) ≡ false → (rd == 2) ≡ false → move_of rd m ≡ Keeps
 keeps rd m a b = rw (b, a) refl

@@ -13,14 +13,14 @@ use Rattle.sh_types.specs.declared.instructions.Instr.{Instr}
 use Rattle.sh_types.specs.Decoding.{decoded}
 use Rattle.sh_types.specs.Elf.{entry_of}
 use Rattle.sh_types.specs.Fine.{SiteFits, IsFine}
-use Rattle.sh_types.specs.Frame.{frame, IsState, Follows, FramesFit}
+use Rattle.sh_types.specs.Frame.{IsState, Follows}
 use Rattle.sh_types.specs.Image.{sizes_of, no_rows, row_in, row_at, site_at, word_at, first_stack, stack_start, stack_end}
-use Rattle.sh_types.specs.Kind.{Kind, Past, word_kind, kind_at}
+use Rattle.sh_types.specs.Kind.{Past, word_kind, kind_at}
 use Rattle.sh_types.specs.Place.{pair, IsPair}
-use Rattle.sh_types.specs.Thin.{is_plain_word, are_entry_words, are_plain_words, is_thin_function, word_site, sites_from, states_from, word_behind, entered, starts_of, has_thin_header, has_thin_programs, has_thin_symbols, has_thin_code, thin_functions, is_thin, image_of, thin_image}
+use Rattle.sh_types.specs.Thin.{is_plain_word, are_entry_words, are_plain_words, is_thin_function, word_site, sites_from, states_from, word_behind, entered, starts_of, has_thin_code, thin_functions, is_thin, image_of, thin_image}
 use Rattle.sh_types.specs.Unmoved.{next_of}
 use Rattle.thin_law.proofs.Words.{IsEntryWord, entry_word, IsOtherWord, other_word}
-use Rattle.thin_law.proofs.States.{IsOpen, open_state, entered_open, state_first, state_next, state_within, state_open, IsEntered, state_entered, return_instr, return_decoded}
+use Rattle.thin_law.proofs.States.{IsOpen, open_state, entered_open, state_first, state_next, state_within, state_open, state_entered, return_instr, return_decoded}
 use Rattle.thin_law.proofs.Cases.{Fits, plain_fits, return_fits, entry_fits}
 use Rattle.thin_law.proofs.Images.{IsThinFunction, IsThinImage, code_image}
 
@@ -155,6 +155,7 @@ module _ (image : Image) (starts : List ℕ) (entry : ℕ) (thin : IsThinImage i
     where
       n : row_at image (next_of p) ≡ word_behind (decoded (get_or words k 0)) (Some row)
       n = next_row p row words k r l
+
       by : (b : Bool) → (slice_index starts p.func == entry) ≡ b → (if b then are_entry_words starts entry (slice_index starts p.func) words else are_plain_words words) ≡ true → WordFits image p row (get_or (sites_from starts (slice_index starts p.func) words) k Plain) (decoded (get_or words k 0))
       by true q t =
           entry_case p row (decoded (get_or words k 0)) _ e (entry_word starts entry (slice_index starts p.func) words k t l)

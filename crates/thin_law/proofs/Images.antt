@@ -1,6 +1,6 @@
 -- The parts of a thin file's image.
-use Rattle.std.proofs.Common.{◌≡◌, ◌≢◌, ◌⊎◌, inl, inr, ℕ, zero, suc, ◌+◌, ◌-◌, ◌*◌, ◌/◌, ◌%◌, ◌<◌, ◌≤◌, Bool, true, false, Option, Some, None, List, [], ◌∷◌, length, get_or, refl, sym, ap, ◌∙◌, subst, arith}
-use Rattle.std.specs.Prelude.{◌==◌, ◌&&◌, nat_lt, nat_le, is_some, unwrap_or, map, slice_index, slice_index_or, if◌then◌else◌}
+use Rattle.std.proofs.Common.{◌≡◌, inl, inr, ℕ, zero, suc, ◌+◌, ◌-◌, ◌*◌, ◌/◌, ◌%◌, ◌<◌, ◌≤◌, Bool, true, false, Option, Some, None, List, [], ◌∷◌, length, get_or, refl, sym, ap, ◌∙◌, arith}
+use Rattle.std.specs.Prelude.{◌==◌, nat_lt, nat_le, is_some, unwrap_or, map, slice_index, slice_index_or, if◌then◌else◌}
 use Rattle.std.specs.List.{list_all, position_from, zip}
 use Rattle.std.proofs.lemmas.Bool.{and_parts, eqb-true, cases_lt}
 use Rattle.std.proofs.lemmas.Bool.Decides.{nat_tests}
@@ -8,12 +8,11 @@ use Rattle.std.proofs.lemmas.List.{get_or-map, get_or_past, length-map}
 use Rattle.sh_types.specs.declared.code.Function.{Function}
 use Rattle.sh_types.specs.declared.code.FrameTable.{FrameTable}
 use Rattle.sh_types.specs.declared.code.Image.{Image}
-use Rattle.sh_types.specs.declared.code.Site.{Site}
 use Rattle.sh_types.specs.declared.elf.RawSymbol.{RawSymbol}
 use Rattle.sh_types.specs.Elf.{number_at, places, entry_of}
 use Rattle.sh_types.specs.Image.{sizes_of, no_rows, first_stack}
 use Rattle.sh_types.specs.Thin.{follow, starts_of, words_of, code_size, number_of, function_of, sites_from, frames_of, states_from, entered, is_thin_function, are_thin_functions, are_entered, has_thin_code, image_of}
-use Rattle.thin_law.proofs.Cases.{IsOther, OthersCalled}
+use Rattle.thin_law.proofs.Cases.{OthersCalled}
 
 -- ---- what is to be known of the image
 

@@ -1,5 +1,5 @@
 -- The states of the frames of thin functions, one by one.
-use Rattle.std.proofs.Common.{◌≡◌, ℕ, ℤ, pos, negsuc, zero, suc, ◌+◌, ◌^◌, ◌<◌, ◌≤◌, Bool, true, false, Option, Some, None, List, [], ◌∷◌, length, get_or, refl, sym, ap, ◌∙◌, subst, arith}
+use Rattle.std.proofs.Common.{◌≡◌, ℕ, ℤ, pos, negsuc, zero, suc, ◌+◌, ◌^◌, ◌<◌, ◌≤◌, Bool, true, false, Option, Some, None, List, [], ◌∷◌, length, get_or, refl, ap, ◌∙◌, subst, arith}
 use Rattle.std.specs.Prelude.{◌==◌, ◌&&◌, ◌-ℤ◌, nat_le, not, IfSome, if◌then◌else◌}
 use Rattle.std.proofs.lemmas.Bool.{and_parts, eqb-true}
 use Rattle.std.proofs.lemmas.Bool.Decides.{nat_tests}
@@ -14,7 +14,7 @@ use Rattle.sh_types.specs.Decoding.{decoded, op_in, made}
 use Rattle.sh_types.specs.Frame.{IsLoose, IsState}
 use Rattle.sh_types.specs.Instruction.{row_of}
 use Rattle.sh_types.specs.Need.{plus_imm}
-use Rattle.sh_types.specs.Thin.{computes, is_addi, is_jal, is_jalr, is_plain, is_plain_word, moves_sp, are_plain_words, entered, small_depth, state_behind, word_behind, states_from}
+use Rattle.sh_types.specs.Thin.{computes, is_jal, is_jalr, is_plain, is_plain_word, moves_sp, are_plain_words, entered, small_depth, state_behind, word_behind, states_from}
 
 -- ---- along the words
 
@@ -167,6 +167,7 @@ shifted depth imm l = by (pos depth -ℤ imm) refl
     by_size : (d : ℕ) (b : Bool) → nat_le d (2 ^ 20) ≡ b → pos depth -ℤ imm ≡ pos d → Shift depth imm (if b then d else 0)
     by_size d true t e = let m : d ≤ 2 ^ 20 = grind (arith, nat_tests, t) in Back (back depth imm d l m e)
     by_size d false t e = New refl
+
     by : (z : ℤ) → pos depth -ℤ imm ≡ z → Shift depth imm (small_depth z)
     by (pos d) e = by_size d (nat_le d (2 ^ 20)) refl e
     by (negsuc d) e = New refl
