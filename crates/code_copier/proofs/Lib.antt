@@ -1,0 +1,4 @@
+pub mod Classing
+pub mod Filling
+pub mod GuestFacts
+pub mod Reaching
