@@ -1,6 +1,6 @@
 -- The frames with no more than each of them says, and where a code address that points into a cell lies.
-use Rattle.std.proofs.Common.{◌≡◌, ◌≢◌, ◌⊎◌, inl, inr, ℕ, ◌+◌, ◌*◌, ◌<◌, ◌≤◌, Bool, true, false, Option, Some, None, List, [], ◌∷◌, refl, sym, ap, ◌∙◌, subst, arith}
-use Rattle.std.specs.Prelude.{slice_get, slice_index, ◌==◌, if◌then◌else◌}
+use Rattle.std.proofs.Common.{◌≡◌, ◌≢◌, ℕ, ◌*◌, Bool, true, false, Option, Some, None, List, [], ◌∷◌, refl, sym, ap, ◌∙◌, subst, arith}
+use Rattle.std.specs.Prelude.{slice_get, slice_index, ◌==◌}
 use Rattle.std.proofs.lemmas.Bool.Decides.{nat_tests}
 use Rattle.sh_types.specs.declared.code.CodeRef.{CodeRef}
 use Rattle.sh_types.specs.declared.code.CodeRef.TheVariants.{Root, At}
@@ -14,7 +14,7 @@ use Rattle.sh_types.specs.declared.runs.Event.{Event}
 use Rattle.sh_types.specs.declared.runs.Hart.{Hart}
 use Rattle.sh_types.specs.Chain.{his, top_of, IsChain, PcChain, RaFine, Sound, AreFrames, FramesFrom, IsSound, IsInCell, CodeAddress, Pc, Ra, Word, PointsInto}
 use Rattle.sh_types.specs.Cipher.{unseal}
-use Rattle.sh_types.specs.Event.{state_after, IsLegalIn, written}
+use Rattle.sh_types.specs.Event.{IsLegalIn, written}
 use Rattle.sh_types.specs.Fine.{IsFine, IsSetting}
 use Rattle.sh_types.specs.Image.{sizes_of}
 use Rattle.sh_types.specs.Place.{place_of, IsPair, WellPlaced}
