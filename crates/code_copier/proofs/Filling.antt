@@ -1,6 +1,6 @@
 -- A cell that is filled function by function.
 use Rattle.std.proofs.Common.{◌≡◌, ◌≢◌, ℕ, zero, suc, ◌+◌, ◌-◌, ◌*◌, ◌/◌, ◌%◌, ◌<◌, ◌≤◌, List, refl, sym, ap, ◌∙◌, subst, arith, length, add-one, Bool, true, false, Option, Some, None, set, length-set, get_or-set_same, get_or-set_other}
-use Rattle.std.specs.Prelude.{slice_index, ◌==◌, ◌&&◌, ◌||◌, nat_lt, map, if◌then◌else◌}
+use Rattle.std.specs.Prelude.{slice_index, ◌==◌, ◌&&◌, ◌||◌, nat_lt, if◌then◌else◌}
 use Rattle.std.proofs.lemmas.Bool.Decides.{nat_tests}
 use Rattle.std.proofs.lemmas.List.{length-map}
 use Rattle.std.proofs.lemmas.List.FromFn.{fill_by_all}

@@ -1,6 +1,5 @@
 -- The guest and the layout of the tests: two functions, the first of which calls the second.
 use Rattle.std.specs.Prelude.{Some, [], ◌∷◌, replicate}
-use Rattle.sh_types.specs.declared.code.Function.{Function}
 use Rattle.sh_types.specs.declared.code.Site.TheVariants.{Plain, DirectCall, ReturnLike, Environment}
 use Rattle.sh_types.specs.declared.code.RaPlace.TheVariants.{Reg, Dropped}
 use Rattle.sh_types.specs.declared.code.FrameState.{FrameState}

@@ -1,5 +1,5 @@
 //! The copy, function by function.
-ghost use Rattle.std.specs.Prelude.{◌≡◌, ℕ, ◌+◌, ◌*◌, ◌≤◌, ◌<◌, ◌^◌, ◌/◌, ◌%◌, length, slice_index, IfOk};
+ghost use Rattle.std.specs.Prelude.{◌≡◌, ℕ, ◌+◌, ◌*◌, ◌<◌, ◌^◌, ◌/◌, length, slice_index, IfOk};
 ghost use Rattle.sh_types.specs.Copy.{IsCopyable, moved_word, literal_number, literals_below, copy_of};
 ghost use Rattle.sh_types.specs.Image.{sizes_of};
 ghost use Rattle.sh_types.specs.Place.{WellPlaced, IsPair, cell_start};
@@ -91,12 +91,13 @@ fn fill(words: &mut Vec<u32>, image: &Image, layout: &Layout, function: u32, num
 }
 
 /// The copy of a layout of the image's sizes. Err only where memory is refused.
-#[tactic(auto, using(crate::proofs::Filling::filled_none, crate::proofs::Filling::filled_all, crate::proofs::Filling::below_none))]
+#[tactic(auto, using(crate::proofs::Filling::filled_none, crate::proofs::Filling::filled_all, crate::proofs::Filling::below_none, sh_types::proofs::Copied::cell_length))]
 pub fn copy(alloc: Global, image: &Image, layout: &Layout) -> Result<CodeCopy, NoMemory>
     requires copyable { IsCopyable image.now }
     requires placed { WellPlaced layout.now }
     requires sizes { layout.now.sizes ≡ sizes_of image.now }
-    ensures { IfOk result (λ c. c ≡ copy_of image.now layout.now) }
+    ensures is { IfOk result (λ c. c ≡ copy_of image.now layout.now) }
+    ensures many { IfOk result (λ c. length c.words ≡ 262144) }
 {
     let mut words = zeros(alloc, CELL_WORDS)?;
     let mut number = 0;

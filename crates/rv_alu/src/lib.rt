@@ -2,14 +2,14 @@
 //! definition over whole and signed numbers.
 #![tactic(auto)]
 
-ghost use Rattle.std.specs.Prelude.{◌≡◌, IsTrue, ◌↔◌};
-ghost use Rattle.sh_types.specs.Arithmetic.{alu_of, is_arithmetic, is_word, is_branch, compare_of, is_load, extend_of, is_amo, amo_of, Meets};
+ghost use Rattle.std.specs.Prelude.{◌≡◌, ◌<◌, ◌^◌, IsTrue, ◌↔◌};
+ghost use Rattle.sh_types.specs.Arithmetic.{alu_of, is_arithmetic, is_word, is_branch, compare_of, is_load, extend_of, is_amo, is_word_amo, amo_of, Meets};
 
 mod classes;
 mod laws;
 mod parts;
 
-pub use classes::{is_amo, is_arithmetic, is_branch, is_load};
+pub use classes::{is_amo, is_arithmetic, is_branch, is_load, is_word_amo};
 pub use laws::{known_results, special_cases};
 use parts::{
     high_mixed, high_signed, high_unsigned, less, low, product, quotient, remainder, shifted_right,
@@ -108,10 +108,11 @@ pub fn extend(op: Op, raw: u64) -> u64
 
 /// What an atomic stores, of the old number at its place and the number of rs2. A word form looks at the low 32 bits of
 /// both, and answers a number below 2^32. LR and SC are none of these rows.
-#[tactic(auto, unfolding(sh_types::specs::Arithmetic::amo_of))]
+#[tactic(auto, unfolding(sh_types::specs::Arithmetic::amo_of, sh_types::specs::Instruction::row_of))]
 pub fn amo(op: Op, old: u64, operand: u64) -> u64
     requires { IsTrue (is_amo op) }
-    ensures { result ≡ amo_of op old operand }
+    ensures exact { result ≡ amo_of op old operand }
+    ensures word { IsTrue (is_word_amo op) → result < 2 ^ 32 }
 {
     match op {
         Op::AmoswapD => operand,

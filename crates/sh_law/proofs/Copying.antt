@@ -289,6 +289,7 @@ kind_of_copy image l p row fine w z r =
           rw (whose, guard, there) refl
       | inr inner ↦
           let there : (p.off == slice_index (sizes_of image) p.func) ≡ false = rw (← z) inner in
+          let below : p.off < slice_index (sizes_of image) p.func = rw (← z) (grind (arith, nat_tests, ip.off, inner)) in
           let word : copied image l (place_of l p) ≡ moved_word image l p = word_is image l (place_of l p) p whose (λ e. absurd (grind (arith, nat_tests))) in
-          rw (whose, inner, there, word, r) (word_there image l p row (literal_in image) w ip z r (site_at image p) (decoded (word_at image p)) refl (fine.sites p row r))
+          rw (whose, inner, there, word, r) (word_there image l p row (literal_in image) w ip z r (site_at image p) (decoded (word_at image p)) refl (fine.sites p row r below))
     ]

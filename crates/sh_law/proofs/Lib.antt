@@ -4,10 +4,12 @@ pub mod Copying
 pub mod Counting
 pub mod Keeping
 pub mod Legal
+pub mod Counted
 pub mod Lists
 pub mod Moving
 pub mod Placing
 pub mod Premises
+pub mod Reached
 pub mod Reading
 pub mod Stepping
 pub mod Whole

@@ -137,7 +137,7 @@ unfolding sizes_of
 example_entry = omega arith
 
 pub example_fine : IsFine example
-example_fine = record { entry = example_entry; whole = whole; low = low; frames = frames_fit; sites = sites_fit }
+example_fine = record { entry = example_entry; whole = whole; low = low; frames = frames_fit; sites = λ p row e l. sites_fit p row e }
 
 -- ---- the layouts
 

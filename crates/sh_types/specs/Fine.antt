@@ -1,4 +1,4 @@
--- The images that are run: words, classes and frames fit each other.
+-- The images that are run: words, classes and frames fit each other. This project's own.
 use Rattle.std.specs.Prelude.{◌≡◌, ℕ, ◌<◌, ◌≤◌, ◌%◌, ◌^◌, ◌==◌, ◌&&◌, ◌||◌, true, Option, Some, None, length, slice_index, slice_get}
 use Rattle.sh_types.specs.declared.code.FrameState.{FrameState}
 use Rattle.sh_types.specs.declared.code.Image.{Image}
@@ -43,7 +43,8 @@ pub record IsFine (image : Image) : Type 0 where
   -- memory lies below the cells
   pub low : (k : ℕ) (r : Region) → slice_get image.regions k ≡ Some r → r.end ≤ 0x40000000
   pub frames : FramesFit image
-  pub sites : (p : Pair) (row : FrameState) → row_at image p ≡ Some row → SiteFits image (site_at image p) (decoded (word_at image p))
+  -- behind the last word of a function there is none
+  pub sites : (p : Pair) (row : FrameState) → row_at image p ≡ Some row → p.off < slice_index (sizes_of image) p.func → SiteFits image (site_at image p) (decoded (word_at image p))
 
 -- the image is fine, and each layout is one of its functions
 pub record IsSetting (o : Setting) : Type 0 where

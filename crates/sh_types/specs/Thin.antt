@@ -3,9 +3,7 @@
 -- Header", "Symbol Table") and the RISC-V psABI ("File Header"); the words are those of the RISC-V Unprivileged
 -- ISA ("RV32I Base Integer Instruction Set"), with ra as x1 and sp as x2.
 use Rattle.std.specs.Prelude.{ℕ, ℤ, pos, negsuc, ◌+◌, ◌-◌, ◌/◌, ◌%◌, ◌^◌, ◌==◌, ◌&&◌, ◌||◌, ◌-ℤ◌, nat_lt, nat_le, not, Bool, true, false, Option, Some, None, is_some, unwrap_or, List, [], ◌∷◌, length, filter, map, if◌then◌else◌}
-use Rattle.std.specs.Int.{cast_unsigned}
 use Rattle.std.specs.List.{list_all, position_from, zip}
-use mir.Syntax.{w64}
 use Rattle.sh_types.specs.declared.code.Function.{Function}
 use Rattle.sh_types.specs.declared.code.Site.{Site}
 use Rattle.sh_types.specs.declared.code.Site.TheVariants.{Plain, DirectCall, ReturnLike, Environment}
@@ -21,6 +19,7 @@ use Rattle.sh_types.specs.declared.instructions.Op.TheVariants.{Lui, Addi, Add, 
 use Rattle.sh_types.specs.Decoding.{decoded}
 use Rattle.sh_types.specs.Elf.{number_at, lies_in, has, magic_of, class_of, order_of, ident_version_of, type_of, machine_of, version_of, entry_of, program_at, section_at, flags_of, program_count, section_count, places, program, head_at, raw_symbol}
 use Rattle.sh_types.specs.Image.{first_stack}
+use Rattle.sh_types.specs.Need.{plus_imm}
 
 -- ---- the header and its tables
 
@@ -120,7 +119,7 @@ moves_sp i = is_addi i.op && (i.rd == 2) && (i.rs1 == 2)
 
 -- where the jump at an address goes
 abbrev pub jump_target : ℕ → Instr → ℕ
-jump_target address i = (address + cast_unsigned w64 i.imm) % 2 ^ 64
+jump_target address i = plus_imm address i.imm
 
 -- the number of the function that the jump at an address goes to
 abbrev pub callee_of : List ℕ → ℕ → Instr → Option ℕ
@@ -167,14 +166,18 @@ are_thin_functions starts entry words = list_all (λ f. is_thin_function starts 
 
 -- ---- which files are thin
 
--- the functions are few, lie one behind the other in the whole code, are entered at the start of one, and have
--- the words of a thin file
+-- the entry is the start of a function, and each function has the words of a thin file
+unfoldable pub are_entered : List ℕ → List RawSymbol → Bool
+are_entered b functions =
+    is_some (number_of (starts_of functions) (entry_of b))
+    && are_thin_functions (starts_of functions) (entry_of b) (map (words_of b) functions)
+
+-- the functions are few, and lie one behind the other in the whole code
 unfoldable pub has_thin_code : List ℕ → List RawSymbol → Bool
 has_thin_code b functions =
     nat_le (length functions) 16384
     && follow 0x10000 (0x10000 + code_size b) functions
-    && is_some (number_of (starts_of functions) (entry_of b))
-    && are_thin_functions (starts_of functions) (entry_of b) (map (words_of b) functions)
+    && are_entered b functions
 
 unfoldable pub is_thin : List ℕ → Bool
 is_thin b = has_thin_header b && has_thin_programs b && has_thin_symbols b && has_thin_code b (thin_functions b)

@@ -1,0 +1,20 @@
+-- What the code needs to know of functions that lie one behind the other.
+use Rattle.std.specs.Prelude.{◌≡◌, ◌<◌, ◌≤◌, ℕ, ◌+◌, ◌*◌, ◌%◌, ◌^◌, List, [], length, slice_index, slice_index_or}
+use Rattle.sh_types.specs.declared.elf.RawSymbol.{RawSymbol}
+
+-- a function of whole words between two addresses
+pub record IsWithin (start end : ℕ) (f : RawSymbol) : Type 0 where
+  pub low : start ≤ f.value
+  pub some : 0 < f.size
+  pub whole : f.size % 4 ≡ 0
+  pub high : f.value + f.size ≤ end
+
+-- a few starts, each above the one before
+pub record IsRising (starts : List ℕ) : Type 0 where
+  pub few : length starts ≤ 16384
+  pub rise : (i j : ℕ) → i < j → j < length starts → slice_index starts i < slice_index starts j
+
+-- a list of words for each start, at low addresses
+pub record IsLaidOut (starts : List ℕ) (words : List (List ℕ)) : Type 0 where
+  pub many : length words ≡ length starts
+  pub low : (i : ℕ) → i < length starts → slice_index starts i + 4 * length (slice_index_or words i []) < 2 ^ 32

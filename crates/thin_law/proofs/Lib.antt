@@ -1,0 +1,5 @@
+pub mod Words
+pub mod States
+pub mod Cases
+pub mod Images
+pub mod Fine

@@ -1,0 +1,5 @@
+use Rattle.thin_law.proofs.Fine.{thin_fine}
+use Rattle.thin_law.proofs.thin_images_are_fine.Goals as goal
+
+pub returns : goal.returns
+returns c = record { fine = λ file image e. thin_fine file image e }
