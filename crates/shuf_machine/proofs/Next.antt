@@ -17,6 +17,7 @@ use Rattle.sh_types.specs.Need.{Outcome, Goes, Puts, Calls, Quits, Traps, Leaks,
 use Rattle.sh_types.specs.Operands.{both_ra, width_of}
 use Rattle.sh_types.specs.Place.{whose_of}
 use Rattle.sh_types.specs.Shuffled.{Setting, Owned, Shuffled, left, after, moved_of, on_hart, shuffled_step, hart_does, hart_needs, kind_there, literal_in, pair_or_first, pair_of, load_owned, store_owned, save_owned, take_owned}
+use Rattle.sh_law.specs.Length.{is_calls}
 use Rattle.hart_step.specs.declared.answers.Did.{Did}
 use Rattle.hart_step.specs.declared.answers.Did.TheVariants.{Went, Call, HartEnd, Trapped, Leak}
 use Rattle.hart_step.specs.Did.{did_as, touched_by, did_of, hart_after}
@@ -24,7 +25,7 @@ use Rattle.layout_maker.specs.Layout.{layout_of}
 use Rattle.guest_mem.specs.Held.{Held, regions_of}
 use Rattle.shuf_machine.specs.declared.state.Code.{Code}
 use Rattle.shuf_machine.specs.Meant.{IsCode, IsMapped, asked_by}
-use Rattle.shuf_machine.specs.Next.{outcome_at, next_outcome, is_call, is_went, Comes, IsBegun, IsHere, IsNext}
+use Rattle.shuf_machine.specs.Next.{outcome_at, next_outcome, is_went, Comes, IsBegun, IsHere, IsNext}
 use Rattle.shuf_machine.specs.Run.{setting_of}
 
 -- ---- which addresses are mapped is all that an instruction asks of the regions
@@ -98,13 +99,13 @@ still_there n s h h' m' e eh em =
 begun_by : (o : Setting) (n : ℕ) (s : Shuffled) (h h' : Hart) (m' : ℕ → Owned) (t : Option ℕ) (x : Outcome Hart Owned) → slice_get s.harts n ≡ Some h → x ≡ next_outcome o n s → h' ≡ hart_after x h → m' ≡ words_after x s.words → IsBegun o n (did_as t x) s (with_harts s (slice_set s.harts n h') m')
 begun_by o n s h h' m' t (Goes g) e ex eh em =
     record {
-      comes = ap is_call (sym ex);
+      comes = ap is_calls (sym ex);
       went = λ w. went_left o n s h g h' s.words m' (step_is o n s h e ∙ ap (after o s n h) (sym ex)) eh em;
       still = λ w. absurd (cc);
     }
 begun_by o n s h h' m' t (Puts g w c stored) e ex eh em =
     record {
-      comes = ap is_call (sym ex);
+      comes = ap is_calls (sym ex);
       went = λ i. went_left o n s h g h' (set_at s.words w c) m' (step_is o n s h e ∙ ap (after o s n h) (sym ex)) eh em;
       still = λ i. absurd (cc);
     }

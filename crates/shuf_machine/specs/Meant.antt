@@ -13,6 +13,7 @@ use Rattle.sh_types.specs.Need.{Calls}
 use Rattle.sh_types.specs.Place.{WellPlaced}
 use Rattle.sh_types.specs.Runnable.{IsRunnable}
 use Rattle.sh_types.specs.Shuffled.{Setting, Owned, Shuffled, moved_of, shuffled_step}
+use Rattle.sh_law.specs.Length.{IsWhole}
 use Rattle.guest_mem.specs.Held.{Held, words_of, regions_of}
 use Rattle.layout_maker.specs.Cell.{recent_of}
 use Rattle.shuf_machine.specs.declared.answers.MachineNo.{MachineNo}
@@ -78,19 +79,11 @@ asked_in o n limit k s =
 
 -- ---- runs of one hart
 
--- the hart's next instruction is an environment call
-abbrev pub CallsNext : Setting → (ℕ → Owned) → Option Hart → Type 0
-CallsNext o m None = ⊥
-CallsNext o m (Some h) = moved_of o h m ≡ Calls
-
 -- the instructions of one Run event of at most `limit`
 pub record IsRun (o : Setting) (n limit k : ℕ) (s s' : Shuffled) : Type 0 where
-  pub some : 1 ≤ k
-  pub few : k ≤ limit
-  pub all : can_all o n k s ≡ true
+  -- as many as the limit allows, with an environment call only as the first
+  pub whole : IsWhole o n limit k s
   pub state : s' ≡ instructions o n k s
-  -- fewer only where the hart or the run has ended, or an environment call comes next
-  pub short : k < limit → can_run s' n ≡ true → CallsNext o s'.words (slice_get s'.harts n)
 
 -- why no instruction of a hart can be run
 abbrev pub IsRefusal : No → Shuffled → ℕ → Type 0

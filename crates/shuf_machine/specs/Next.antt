@@ -1,13 +1,18 @@
 -- The next instruction of a hart, and how many go on from there. This project's own.
-use Rattle.std.specs.Prelude.{◌≡◌, ℕ, ℤ, zero, suc, ◌<◌, ◌/◌, ◌^◌, ◌&&◌, Bool, true, false, not, Option, Some, None, List, [], slice_get, slice_index, if◌then◌else◌}
+use Rattle.std.specs.Prelude.{◌≡◌, ℕ, ℤ, ◌<◌, ◌/◌, ◌^◌, Bool, true, false, Option, Some, None, List, [], slice_get, slice_set, slice_index}
+use Rattle.sh_types.specs.declared.runs.End.TheVariants as end
 use Rattle.sh_types.specs.declared.runs.Event.{Event}
 use Rattle.sh_types.specs.declared.runs.Hart.{Hart}
 use Rattle.sh_types.specs.Copy.{copied}
-use Rattle.sh_types.specs.Event.{can_run, state_after, IsLegalIn}
+use Rattle.sh_types.specs.Event.{state_after, IsLegalIn}
 use Rattle.sh_types.specs.Fetch.{InCopy, word_in}
 use Rattle.sh_types.specs.Kind.{Restores}
 use Rattle.sh_types.specs.Need.{Outcome, Goes, Puts, Calls, Quits, Traps, Leaks, plus_imm}
-use Rattle.sh_types.specs.Shuffled.{Setting, Owned, Shuffled, left, moved_of, shuffled_step, kind_there, literal_in}
+use Rattle.sh_types.specs.Shuffled.{Setting, Owned, Shuffled, left, set_hart, hart_ends, stopped, pair_of, moved_of, shuffled_step, kind_there, literal_in}
+use Rattle.sh_law.specs.Length.{is_calls}
+use Rattle.guest_calls.specs.declared.CallDid.{CallDid}
+use Rattle.guest_calls.specs.declared.CallDid.TheVariants.{Answer, ExitHart}
+use Rattle.guest_calls.specs.declared.CallDid.TheVariants as call
 use Rattle.hart_step.specs.declared.answers.Did.{Did}
 use Rattle.hart_step.specs.declared.answers.Did.TheVariants.{Went, Call, HartEnd, Trapped, Leak}
 use Rattle.shuf_machine.specs.declared.state.Code.{Code}
@@ -20,14 +25,6 @@ outcome_at o m (Some h) = moved_of o h m
 abbrev pub next_outcome : Setting → ℕ → Shuffled → Outcome Hart Owned
 next_outcome o n s = outcome_at o s.words (slice_get s.harts n)
 
-abbrev pub is_call : Outcome Hart Owned → Bool
-is_call (Goes h) = false
-is_call (Puts h w c stored) = false
-is_call Calls = true
-is_call Quits = false
-is_call (Traps kind value) = false
-is_call Leaks = false
-
 -- ---- how the code does an instruction
 
 abbrev pub is_went : Did → Bool
@@ -39,7 +36,7 @@ is_went Leak = false
 
 -- the outcome that the code's answer tells
 abbrev pub Comes : Did → Outcome Hart Owned → Type 0
-Comes (Went word stored) x = is_call x ≡ false
+Comes (Went word stored) x = is_calls x ≡ false
 Comes Call x = x ≡ Calls
 Comes HartEnd x = x ≡ Quits
 Comes (Trapped kind value) x = x ≡ Traps kind value
@@ -67,17 +64,11 @@ pub record IsNext (c : Code) (s : Shuffled) (n : ℕ) : Type 0 where
   pub is : slice_get s.harts n ≡ Some hart
   pub here : IsHere c s.words hart
 
--- ---- how many instructions a Run event has, by the moved machine
-
--- at most so many further instructions, up to an environment call
-abbrev pub moved_further : Setting → ℕ → ℕ → Shuffled → ℕ
-moved_further o n zero s = 0
-moved_further o n (suc k) s = if can_run s n && not (is_call (next_outcome o n s)) then suc (moved_further o n k (shuffled_step o n s)) else 0
-
--- any first instruction, and further ones
-abbrev pub moved_length : Setting → ℕ → ℕ → Shuffled → ℕ
-moved_length o n zero s = 0
-moved_length o n (suc k) s = suc (moved_further o n k (shuffled_step o n s))
+-- what an environment call leaves, after what it writes has joined the output
+abbrev pub acted : Setting → ℕ → Hart → CallDid → Shuffled → Shuffled
+acted o n h (Answer value) s = left s (slice_set s.harts n (set_hart h 10 value)) s.words [] None
+acted o n h (ExitHart code) s = hart_ends s n h code
+acted o n h call.Leak s = stopped s (end.Leak n (pair_of o h))
 
 -- a legal list of events leads to the state
 pub record IsReached (o : Setting) (s : Shuffled) : Type 0 where

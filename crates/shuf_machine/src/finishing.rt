@@ -2,7 +2,7 @@
 ghost use Rattle.std.specs.Prelude.{◌≡◌, ◌-◌, ◌<◌, ◌^◌, ◌%◌, Some, true, OnOk, OnErr, slice_get, slice_index};
 ghost use Rattle.guest_mem.specs.Held.{regions_of};
 ghost use Rattle.sh_types.specs.Event.{can_run};
-ghost use Rattle.sh_types.specs.Need.{Calls, Quits, Traps, Leaks};
+ghost use Rattle.sh_types.specs.Need.{Quits, Traps, Leaks};
 ghost use Rattle.sh_types.specs.Place.{WellPlaced, whose_of};
 ghost use Rattle.sh_types.specs.Shuffled.{pair_or_first, shuffled_step};
 ghost use Rattle.shuf_machine.specs.Meant.{meant, IsCode, IsMapped};
@@ -10,10 +10,10 @@ ghost use Rattle.shuf_machine.specs.Next.{IsNext, next_outcome};
 ghost use Rattle.shuf_machine.specs.Run.{setting_of};
 
 use crate::state::{Code, State, current, end_hart, low_byte, stop};
-use sh_types::{End, Layout, NoMemory, Pair, Trap, whose};
+use sh_types::{End, Layout, Pair, Trap, whose};
 
 /// The pair at an address; where no pair has it, the first pair.
-fn pair_at(layout: &Layout, address: u64) -> Pair
+pub fn pair_at(layout: &Layout, address: u64) -> Pair
     requires { WellPlaced layout.now }
     ensures { result ≡ pair_or_first (whose_of layout.now address) }
 {
@@ -76,19 +76,4 @@ pub fn leak(code: &Code, state: &mut State, at: u32)
     let hart = current(state, at);
     let pair = pair_at(&code.layout, hart.pc);
     stop(state, End::Leak { hart: at, pair });
-}
-
-/// The hart calls the environment. Err, and no change, only where memory for the output is refused.
-pub fn call(code: &Code, state: &mut State, at: u32) -> Result<(), NoMemory>
-    requires code { IsCode code.now }
-    requires mapped { IsMapped code.now.image state.old.memory }
-    requires here { IsNext code.now (meant state.old) at }
-    requires can { can_run (meant state.old) at ≡ true }
-    requires next { next_outcome (setting_of code.now.origin) at (meant state.old) ≡ Calls }
-    requires count { state.old.count < 2 ^ 64 - 1 }
-    ensures done { OnOk result (meant state.new ≡ shuffled_step (setting_of code.now.origin) at (meant state.old)) }
-    ensures err { OnErr result (meant state.new ≡ meant state.old) }
-    ensures mapped { IsMapped code.now.image state.new.memory }
-{
-    Err(NoMemory)
 }

@@ -3,13 +3,14 @@ ghost use Rattle.std.specs.Prelude.{◌≡◌, ◌+◌, ◌-◌, ◌<◌, ◌≤
 ghost use Rattle.guest_mem.specs.Held.{regions_of};
 ghost use Rattle.sh_types.specs.Event.{can_run, can_all};
 ghost use Rattle.sh_types.specs.Fetch.{Tells};
-ghost use Rattle.sh_types.specs.Need.{Calls};
 ghost use Rattle.sh_types.specs.Shuffled.{shuffled_step};
+ghost use Rattle.sh_law.specs.Length.{is_calls};
 ghost use Rattle.shuf_machine.specs.Meant.{meant, asked_by, asked_in, IsCode, IsMapped, IsRun};
-ghost use Rattle.shuf_machine.specs.Next.{IsNext, IsBegun, next_outcome, is_call, moved_length, IsReached};
+ghost use Rattle.shuf_machine.specs.Next.{IsNext, IsBegun, next_outcome, IsReached};
 ghost use Rattle.shuf_machine.specs.Run.{setting_of};
 
-use crate::finishing::{call, leak, quit, trap};
+use crate::calls::call;
+use crate::finishing::{leak, quit, trap};
 use crate::state::{Code, State, can_go, count_one};
 use hart_step::{Did, step};
 use sh_types::{Fetch, NoMemory};
@@ -52,8 +53,8 @@ fn advance<F: Fetch>(
     requires can { can_run (meant state.old) at ≡ true }
     requires count { state.old.count < 2 ^ 64 - 1 }
     ensures done { IfOk result (λ done. IsTrue done → meant state.new ≡ shuffled_step (setting_of code.now.origin) at (meant state.old)) }
-    ensures quiet { IfOk result (λ done. IsTrue done → first ≡ false → is_call (next_outcome (setting_of code.now.origin) at (meant state.old)) ≡ false) }
-    ensures stopped { IfOk result (λ done. done ≡ false → (first ≡ false) × (meant state.new ≡ meant state.old) × (next_outcome (setting_of code.now.origin) at (meant state.old) ≡ Calls)) }
+    ensures quiet { IfOk result (λ done. IsTrue done → first ≡ false → is_calls (next_outcome (setting_of code.now.origin) at (meant state.old)) ≡ false) }
+    ensures stopped { IfOk result (λ done. done ≡ false → (first ≡ false) × (meant state.new ≡ meant state.old) × (is_calls (next_outcome (setting_of code.now.origin) at (meant state.old)) ≡ true)) }
     ensures err { OnErr result ((first ≡ true) × (meant state.new ≡ meant state.old)) }
     ensures mapped { IsMapped code.now.image state.new.memory }
     ensures asked { Tells (F.asked fetch.old) (asked_by (slice_get (meant state.old).harts at)) (F.asked fetch.new) }
@@ -97,7 +98,6 @@ pub fn run_hart<F: Fetch>(
     requires some { 1 ≤ limit }
     requires count { state.old.count + limit < 2 ^ 64 }
     ensures run { IfOk result (λ n. IsRun (setting_of code.now.origin) at limit n (meant state.old) (meant state.new)) }
-    ensures length { IfOk result (λ n. n ≡ moved_length (setting_of code.now.origin) at limit (meant state.old)) }
     ensures err { OnErr result (meant state.new ≡ meant state.old) }
     ensures mapped { IsMapped code.now.image state.new.memory }
     ensures asked { IfOk result (λ n. Tells (F.asked fetch.old) (asked_in (setting_of code.now.origin) at limit n (meant state.old)) (F.asked fetch.new)) }
