@@ -57,7 +57,7 @@ same_needs : (lits : ℕ → ℕ) (l : Layout) (r r' : List Region) (h : Hart) (
 unfolding hart_needs
 same_needs lits l r r' h w er ew = same_does l r r' h (kind_there lits l h.pc w) er ew
 
-reads_alike : (i : Image) (m : Held) → IsMapped i m → readable (regions_of m) ≡ readable i.regions
+pub reads_alike : (i : Image) (m : Held) → IsMapped i m → readable (regions_of m) ≡ readable i.regions
 reads_alike i m im = fun_ext (λ a. fun_ext (λ n. im.reads a n))
 
 writes_alike : (i : Image) (m : Held) → IsMapped i m → writable (regions_of m) ≡ writable i.regions
