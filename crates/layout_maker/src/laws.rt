@@ -1,5 +1,5 @@
 //! Laws of the layout rule, as clauses of functions that do nothing.
-ghost use Rattle.std.specs.Prelude.{◌≡◌, ◌≢◌, ℕ, ◌+◌, ◌-◌, ◌%◌, ◌^◌, ◌≤◌, ◌<◌, List, [], length, min, slice_index, IsPermutation};
+ghost use Rattle.std.specs.Prelude.{◌≡◌, ◌≢◌, ℕ, ◌+◌, ◌-◌, ◌%◌, ◌≤◌, ◌<◌, ◌^◌, List, [], length, slice_index, min, IsPermutation};
 ghost use Rattle.std.specs.List.{range_with_len};
 ghost use Rattle.sh_types.specs.declared.code.Pair.{Pair};
 ghost use Rattle.sh_types.specs.Place.{WellPlaced, IsPair, place_of};
@@ -12,6 +12,11 @@ ghost use Rattle.layout_maker.specs.Layout.{layout_of};
 /// The functions of each layout lie in its cell and share no byte.
 pub fn layouts_are_well_placed()
     ensures { (sizes seed : List ℕ) (k : ℕ) → IsSized sizes → WellPlaced (layout_of sizes seed k) }
+{}
+
+/// The keys of each layout are numbers of 64 bits.
+pub fn keys_are_small()
+    ensures { (sizes seed : List ℕ) (k n : ℕ) → slice_index (layout_of sizes seed k).keys n < 2 ^ 64 }
 {}
 
 /// A place of a layout is a place of none of the next 64.
@@ -38,10 +43,4 @@ pub fn gaps_are_within_shares()
 pub fn recent_cells_are_counted()
     ensures first { (seed : List ℕ) → recent_of seed 1 ≡ [] }
     ensures many { (seed : List ℕ) (k : ℕ) → length (recent_of seed k) ≡ min (k - 1) 64 }
-{}
-
-/// A layout has the sizes that it was made for, and each of its keys is a 64-bit number.
-pub fn keys_are_words()
-    ensures sizes { (sizes seed : List ℕ) (k : ℕ) → (layout_of sizes seed k).sizes ≡ sizes }
-    ensures keys { (sizes seed : List ℕ) (k n : ℕ) → slice_index (layout_of sizes seed k).keys n < 2 ^ 64 }
 {}

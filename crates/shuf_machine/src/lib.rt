@@ -4,8 +4,10 @@
 mod answers;
 mod calls;
 mod finishing;
+mod machine;
 mod making;
 mod running;
 mod state;
 
 pub use answers::{MachineNo, No, Origin};
+pub use machine::{Machine, machines_stand};

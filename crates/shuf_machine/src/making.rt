@@ -21,7 +21,6 @@ use std::alloc::{AllocError, Global};
 const FIRST_SP: u64 = 0x3fff_f000;
 
 /// The first layout of an image, and its copy.
-#[tactic(auto, unfolding(layout_maker::specs::Cell::recent_of, layout_maker::specs::Cell::cells_of))]
 pub fn make_code(alloc: Global, image: Image, origin: Origin) -> Result<Code, NoMemory>
     requires image { thin_image origin.file ≡ Some image }
     requires fine { IsFine image }

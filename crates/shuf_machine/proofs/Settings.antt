@@ -1,0 +1,48 @@
+-- The setting that an origin gives.
+use Rattle.std.proofs.Common.{◌≡◌, ℕ, zero, suc, ◌+◌, ◌*◌, ◌^◌, ◌<◌, List, [], ◌∷◌, length, map, Option, Some, refl, sym, ap, ◌∙◌, subst, arith}
+use Rattle.std.specs.Prelude.{slice_index}
+use Rattle.std.specs.List.{range_with_len}
+use Rattle.sh_types.specs.declared.code.Image.{Image}
+use Rattle.sh_types.specs.declared.layouts.Layout.{Layout}
+use Rattle.sh_types.specs.Fine.{IsFine, IsSetting}
+use Rattle.sh_types.specs.Image.{sizes_of}
+use Rattle.sh_types.specs.Place.{IsPair, pair}
+use Rattle.sh_types.specs.Runnable.{IsRunnable}
+use Rattle.sh_types.specs.Sized.{IsSized}
+use Rattle.sh_types.specs.Thin.{thin_image}
+use Rattle.layout_maker.specs.Layout.{layout_of}
+use Rattle.layout_maker.proofs.Keying.{keys_small}
+use Rattle.layout_maker.proofs.Placed.{layout_placed, layout_sizes}
+use Rattle.shuf_machine.specs.declared.answers.Origin.{Origin}
+use Rattle.shuf_machine.specs.declared.state.Code.{Code}
+use Rattle.shuf_machine.specs.Meant.{IsCode}
+use Rattle.shuf_machine.specs.Run.{image_or_none, image_of, setting_of}
+
+-- ---- the image is the file's
+
+pub image_is : (file : List ℕ) (image : Image) → thin_image file ≡ Some image → image ≡ image_of file
+unfolding image_of
+image_is file image e = sym (ap image_or_none e)
+
+pub setting_is : (o : Origin) (image : Image) → thin_image o.file ≡ Some image → IsFine image → IsRunnable image → IsSetting (setting_of o)
+setting_is o image e fine runs =
+    let i = image_is o.file image e in
+    let sized : IsSized (sizes_of (image_of o.file)) = subst (λ i. IsSized (sizes_of i)) i runs.sized in
+    record {
+      image = subst IsFine i fine;
+      placed = λ k. layout_placed (sizes_of (image_of o.file)) o.seed k sized;
+      sizes = λ k. layout_sizes (sizes_of (image_of o.file)) o.seed k;
+      keys = λ k n. keys_small (sizes_of (image_of o.file)) o.seed k n;
+    }
+
+-- the layout that was made is the first of the setting
+pub first_layout : (o : Origin) (image : Image) (sizes : List ℕ) (l : Layout) → thin_image o.file ≡ Some image → sizes ≡ sizes_of image → l ≡ layout_of sizes o.seed 1 → l ≡ (setting_of o).layout_at 1
+first_layout o image sizes l e es el = el ∙ ap (λ ss. layout_of ss o.seed 1) (es ∙ ap sizes_of (image_is o.file image e))
+
+-- the entry is a pair of the layout
+pub entry_pair : (c : Code) → IsCode c → IsPair c.layout.sizes (pair c.image.entry 0)
+entry_pair c ic =
+    let s : c.layout.sizes ≡ sizes_of (image_of c.origin.file) = ap (λ (l : Layout). l.sizes) ic.layout ∙ ic.setting.sizes 1 in
+    let e : c.image.entry ≡ (image_of c.origin.file).entry = ap (λ (i : Image). i.entry) ic.image in
+    let n = ap length s in
+    record { func = omega (arith, e, n, ic.setting.image.entry); off = omega arith; whole = refl }
