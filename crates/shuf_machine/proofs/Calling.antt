@@ -1,5 +1,5 @@
 -- What an environment call leaves.
-use Rattle.std.proofs.Common.{◌≡◌, ℕ, ◌+◌, List, [], ◌++◌, Option, Some, None, refl, sym, ap, ◌∙◌, append-nil}
+use Rattle.std.proofs.Common.{◌≡◌, ℕ, ◌+◌, List, ◌++◌, Some, None, ap, ◌∙◌, append-nil}
 use Rattle.std.specs.Prelude.{slice_get, slice_set, slice_index}
 use Rattle.sh_types.specs.declared.runs.End.TheVariants as end
 use Rattle.sh_types.specs.declared.runs.Hart.{Hart}
@@ -8,10 +8,10 @@ use Rattle.sh_types.specs.Environment as defined
 use Rattle.sh_types.specs.Environment.{Answers, ExitsHart, LeaksWord, call_of}
 use Rattle.sh_types.specs.Memory.{readable}
 use Rattle.sh_types.specs.Need.{Calls}
-use Rattle.sh_types.specs.Shuffled.{Setting, Owned, Shuffled, left, set_hart, hart_ends, stopped, pair_of, plain_value, after_call, hart_call, shuffled_step}
+use Rattle.sh_types.specs.Shuffled.{Setting, Shuffled, set_hart, hart_ends, stopped, pair_of, after_call, hart_call, shuffled_step}
 use Rattle.guest_calls.specs.declared.CallDid.{CallDid}
 use Rattle.guest_calls.specs.Answer.{answer_of, more_of}
-use Rattle.guest_mem.specs.Held.{words_of, plain_of, regions_of}
+use Rattle.guest_mem.specs.Held.{plain_of, regions_of}
 use Rattle.shuf_machine.specs.declared.state.Code.{Code}
 use Rattle.shuf_machine.specs.declared.state.State.{State}
 use Rattle.shuf_machine.specs.Meant.{meant, IsCode, IsMapped}

@@ -1,12 +1,12 @@
 -- The words of a copy.
-use Rattle.std.proofs.Common.{◌≡◌, ℕ, ◌+◌, ◌-◌, ◌*◌, ◌/◌, ◌<◌, true, false, Option, Some, None, sym, ap, ◌∙◌, subst, refl, arith, length}
-use Rattle.std.specs.Prelude.{slice_index, ◌==◌}
+use Rattle.std.proofs.Common.{◌≡◌, ℕ, ◌+◌, ◌-◌, ◌*◌, ◌/◌, ◌<◌, true, Option, Some, None, ap, ◌∙◌, subst, refl, arith}
+use Rattle.std.specs.Prelude.{slice_index}
 use Rattle.std.proofs.lemmas.Bool.Decides.{nat_tests}
 use Rattle.sh_types.specs.declared.code.Image.{Image}
 use Rattle.sh_types.specs.declared.code.Pair.{Pair}
 use Rattle.sh_types.specs.declared.layouts.CodeCopy.{CodeCopy}
 use Rattle.sh_types.specs.declared.layouts.Layout.{Layout}
-use Rattle.sh_types.specs.Copy.{copied, copy_of, cell_words}
+use Rattle.sh_types.specs.Copy.{copied, copy_of}
 use Rattle.sh_types.specs.Fetch.{InCopy, word_in}
 use Rattle.sh_types.specs.Place.{cell_start, whose_of}
 use Rattle.sh_types.specs.Shuffled.{ends_there, is_guard}

@@ -1,14 +1,14 @@
 -- What the loop over instructions keeps, and what it comes to.
-use Rattle.std.proofs.Common.{◌≡◌, ℕ, zero, suc, ◌+◌, ◌<◌, ◌≤◌, true, false, List, [], ◌∷◌, ◌++◌, Option, Some, None, refl, sym, ap, ◌∙◌, subst, inl, inr, arith, append-nil, add-one}
-use Rattle.std.specs.Prelude.{slice_get, nat_lt, ◌==◌, ◌&&◌, Bool, if◌then◌else◌}
+use Rattle.std.proofs.Common.{◌≡◌, ℕ, suc, ◌<◌, ◌≤◌, true, false, List, ◌++◌, Option, Some, None, refl, sym, ap, ◌∙◌, subst, arith}
+use Rattle.std.specs.Prelude.{slice_get, ◌==◌, Bool}
 use Rattle.std.proofs.lemmas.Bool.Decides.{nat_tests}
 use Rattle.sh_types.specs.declared.fetching.Fetched.{Fetched}
 use Rattle.sh_types.specs.declared.runs.Hart.{Hart}
 use Rattle.sh_types.specs.Event.{instructions, can_run, can_all}
 use Rattle.sh_types.specs.Fetch.{Tells}
 use Rattle.sh_types.specs.Shuffled.{Setting, Shuffled, shuffled_step}
-use Rattle.sh_law.specs.Length.{is_calls, hart_calls, calls_in, IsWhole}
-use Rattle.shuf_machine.specs.Meant.{asked_by, asked_of, asked_in, IsRun}
+use Rattle.sh_law.specs.Length.{is_calls, hart_calls, calls_in}
+use Rattle.shuf_machine.specs.Meant.{asked_by, asked_of}
 use Rattle.shuf_machine.specs.Next.{outcome_at, next_outcome, IsReached}
 use Rattle.shuf_machine.proofs.Reaching.{reached_more}
 use Rattle.shuf_machine.proofs.Steps.{instructions_more, can_more, tells_more, asked_more}

@@ -1,5 +1,5 @@
 -- What the code does for an instruction is what the moved machine does.
-use Rattle.std.proofs.Common.{◌≡◌, ℕ, zero, suc, Bool, true, false, Option, Some, None, List, [], ◌∷◌, refl, sym, ap, ◌∙◌, subst}
+use Rattle.std.proofs.Common.{◌≡◌, ℕ, zero, suc, Option, Some, None, List, [], ◌∷◌, refl, sym, ap, ◌∙◌, subst}
 use Rattle.std.specs.Prelude.{slice_get, slice_set, slice_index, slice_index_or, ◌==◌, ◌&&◌, if◌then◌else◌}
 use Rattle.std.proofs.Math.Path.{fun_ext}
 use Rattle.sh_types.specs.declared.code.Image.{Image}
@@ -19,13 +19,12 @@ use Rattle.sh_types.specs.Place.{whose_of}
 use Rattle.sh_types.specs.Shuffled.{Setting, Owned, Shuffled, left, after, moved_of, on_hart, shuffled_step, hart_does, hart_needs, kind_there, literal_in, pair_or_first, pair_of, load_owned, store_owned, save_owned, take_owned}
 use Rattle.sh_law.specs.Length.{is_calls}
 use Rattle.hart_step.specs.declared.answers.Did.{Did}
-use Rattle.hart_step.specs.declared.answers.Did.TheVariants.{Went, Call, HartEnd, Trapped, Leak}
 use Rattle.hart_step.specs.Did.{did_as, touched_by, did_of, hart_after}
 use Rattle.layout_maker.specs.Layout.{layout_of}
 use Rattle.guest_mem.specs.Held.{Held, regions_of}
 use Rattle.shuf_machine.specs.declared.state.Code.{Code}
 use Rattle.shuf_machine.specs.Meant.{IsCode, IsMapped, asked_by}
-use Rattle.shuf_machine.specs.Next.{outcome_at, next_outcome, is_went, Comes, IsBegun, IsHere, IsNext}
+use Rattle.shuf_machine.specs.Next.{outcome_at, next_outcome, IsBegun, IsHere, IsNext}
 use Rattle.shuf_machine.specs.Run.{setting_of}
 
 -- ---- which addresses are mapped is all that an instruction asks of the regions

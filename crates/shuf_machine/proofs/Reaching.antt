@@ -1,18 +1,15 @@
 -- What holds of a state that a legal list of events leads to, and of the next.
-use Rattle.std.proofs.Common.{◌≡◌, ℕ, ℤ, zero, suc, ◌+◌, ◌<◌, ◌≤◌, ◌⊎◌, true, false, List, [], ◌∷◌, ◌++◌, length, Option, Some, None, refl, sym, ap, ◌∙◌, subst, inl, inr, arith}
-use Rattle.std.specs.Prelude.{slice_get, slice_index}
+use Rattle.std.proofs.Common.{◌≡◌, ℕ, zero, suc, ◌<◌, true, false, List, [], ◌∷◌, ◌++◌, length, Some, refl, sym, ap, ◌∙◌, subst, inl, inr, arith}
+use Rattle.std.specs.Prelude.{slice_get}
 use Rattle.sh_types.specs.declared.code.Image.{Image}
 use Rattle.sh_types.specs.declared.layouts.CodeCopy.{CodeCopy}
-use Rattle.sh_types.specs.declared.layouts.Layout.{Layout}
 use Rattle.sh_types.specs.declared.runs.Event.TheVariants.{Run}
 use Rattle.sh_types.specs.declared.runs.Hart.{Hart}
 use Rattle.sh_types.specs.Copy.{copied, copy_of}
 use Rattle.sh_types.specs.Event.{can_run, Allowed, state_after, written}
 use Rattle.sh_types.specs.Fetch.{InCopy, word_in}
-use Rattle.sh_types.specs.Kind.{Restores}
-use Rattle.sh_types.specs.Need.{plus_imm}
 use Rattle.sh_types.specs.Place.{IsPair, place_of}
-use Rattle.sh_types.specs.Shuffled.{Setting, Owned, Shuffled, shuffled_step, kind_there, literal_in}
+use Rattle.sh_types.specs.Shuffled.{Setting, Shuffled, shuffled_step, kind_there, literal_in}
 use Rattle.sh_types.specs.Unmoved.{unmoved_run}
 use Rattle.sh_types.proofs.Copied.{place_in_copy}
 use Rattle.guest_mem.specs.Held.{words_of}

@@ -1,18 +1,17 @@
 -- What the fields of a machine mean, what holds of them, and what a run leaves. This project's own.
-use Rattle.std.specs.Prelude.{◌≡◌, ◌≢◌, ℕ, zero, suc, ◌+◌, ◌<◌, ◌≤◌, ◌^◌, ◌&&◌, nat_lt, Bool, true, false, Option, Some, None, List, [], ◌∷◌, ◌++◌, slice_get, if◌then◌else◌}
+use Rattle.std.specs.Prelude.{◌≡◌, ◌≢◌, ℕ, zero, suc, ◌&&◌, nat_lt, true, false, Option, Some, None, List, [], ◌∷◌, ◌++◌, slice_get, if◌then◌else◌}
 use Rattle.sh_types.specs.declared.code.Image.{Image}
 use Rattle.sh_types.specs.declared.fetching.Fetched.{Fetched}
 use Rattle.sh_types.specs.declared.runs.Event.{Event}
 use Rattle.sh_types.specs.declared.runs.Hart.{Hart}
-use Rattle.sh_types.specs.Copy.{copied, copy_of}
-use Rattle.sh_types.specs.Event.{instructions, is_live, can_run, can_all}
-use Rattle.sh_types.specs.Fetch.{InCopy, fetched, word_in}
+use Rattle.sh_types.specs.Copy.{copy_of}
+use Rattle.sh_types.specs.Event.{instructions, is_live, can_run}
+use Rattle.sh_types.specs.Fetch.{fetched}
 use Rattle.sh_types.specs.Fine.{IsSetting}
 use Rattle.sh_types.specs.Memory.{readable, writable}
-use Rattle.sh_types.specs.Need.{Calls}
 use Rattle.sh_types.specs.Place.{WellPlaced}
 use Rattle.sh_types.specs.Runnable.{IsRunnable}
-use Rattle.sh_types.specs.Shuffled.{Setting, Owned, Shuffled, moved_of, shuffled_step}
+use Rattle.sh_types.specs.Shuffled.{Setting, Shuffled, shuffled_step}
 use Rattle.sh_law.specs.Length.{IsWhole}
 use Rattle.guest_mem.specs.Held.{Held, words_of, regions_of}
 use Rattle.layout_maker.specs.Cell.{recent_of}

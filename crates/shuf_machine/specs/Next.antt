@@ -7,7 +7,7 @@ use Rattle.sh_types.specs.Copy.{copied}
 use Rattle.sh_types.specs.Event.{state_after, IsLegalIn}
 use Rattle.sh_types.specs.Fetch.{InCopy, word_in}
 use Rattle.sh_types.specs.Kind.{Restores}
-use Rattle.sh_types.specs.Need.{Outcome, Goes, Puts, Calls, Quits, Traps, Leaks, plus_imm}
+use Rattle.sh_types.specs.Need.{Outcome, Calls, Quits, Traps, Leaks, plus_imm}
 use Rattle.sh_types.specs.Shuffled.{Setting, Owned, Shuffled, left, set_hart, hart_ends, stopped, pair_of, moved_of, shuffled_step, kind_there, literal_in}
 use Rattle.sh_law.specs.Length.{is_calls}
 use Rattle.guest_calls.specs.declared.CallDid.{CallDid}

@@ -19,6 +19,7 @@ use crate::answers::{MachineNo, No, Origin};
 use crate::making::{make_code, opening_state};
 use crate::running::run_hart;
 use crate::state::{Code, State, can_go};
+use sh_law::{instructions_are_counted, states_stand};
 use sh_types::{End, Event, Fetch, Hart, Image, Layout, NoMemory};
 use std::alloc::Global;
 use std::marker::Model;
@@ -112,6 +113,7 @@ impl Machine {
         ensures moved { result.now ≡ (state_of self.now).output }
         ensures unmoved { result.now ≡ (guest_of self.now).output }
     {
+        states_stand();
         &self.state.output
     }
 
@@ -120,6 +122,7 @@ impl Machine {
         ensures moved { result ≡ (state_of self.now).end }
         ensures unmoved { result ≡ (guest_of self.now).end }
     {
+        states_stand();
         self.state.end
     }
 
@@ -128,6 +131,7 @@ impl Machine {
         ensures is { result ≡ (state_of self.now).count }
         ensures run { result ≡ length (written self.now.journal) }
     {
+        instructions_are_counted();
         self.state.count
     }
 
@@ -135,6 +139,7 @@ impl Machine {
     pub fn started(&self) -> u32
         ensures { result ≡ length (state_of self.now).harts }
     {
+        instructions_are_counted();
         self.state.harts.len() as u32
     }
 
@@ -158,6 +163,7 @@ impl Machine {
         ensures is { IsNone result }
         ensures erased { (state_of self.now).older ≡ false }
     {
+        let _ = &self.code;
         None
     }
 
@@ -184,7 +190,8 @@ pub fn machines_stand(machine: &Machine)
     ensures legal { IsLegal machine.now.origin machine.now.journal }
     ensures stands { StandsFor (setting_of machine.now.origin) (state_of machine.now) (guest_of machine.now) }
 {
-    let _machine = machine;
+    states_stand();
+    let _ = &machine.code;
 }
 
 fn run_parts<F: Fetch>(

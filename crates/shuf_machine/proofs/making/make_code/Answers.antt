@@ -1,5 +1,4 @@
-use Rattle.std.proofs.Common.{◌∙◌, ap, sym}
-use Rattle.sh_types.specs.declared.layouts.Layout.{Layout}
+use Rattle.std.proofs.Common.{◌∙◌, sym}
 use Rattle.layout_maker.proofs.Cells.{recent_first}
 use Rattle.shuf_machine.proofs.Settings.{image_is, setting_is, first_layout}
 use Rattle.shuf_machine.proofs.making.make_code.Goals as goal

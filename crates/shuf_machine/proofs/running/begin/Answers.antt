@@ -1,8 +1,7 @@
-use Rattle.std.proofs.Common.{◌≡◌, ℕ, sym, ap, ◌∙◌, subst, arith, List}
+use Rattle.std.proofs.Common.{ℕ, sym, ap, ◌∙◌, subst, arith, List}
 use Rattle.std.specs.Prelude.{slice_index}
 use Rattle.guest_mem.specs.Held.{words_of}
 use Rattle.sh_types.specs.Fetch.{Tells, word_in}
-use Rattle.sh_types.specs.Kind.{Restores}
 use Rattle.sh_types.specs.Shuffled.{kind_there}
 use Rattle.shuf_machine.specs.Meant.{meant}
 use Rattle.shuf_machine.proofs.Copies.{guards_are_zero}

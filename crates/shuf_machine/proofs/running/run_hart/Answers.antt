@@ -1,4 +1,4 @@
-use Rattle.std.proofs.Common.{arith, add-one, sym, ap, ◌∙◌, ◌≡◌, ◌+◌}
+use Rattle.std.proofs.Common.{arith, add-one, ap, ◌≡◌}
 use Rattle.sh_types.specs.Event.{instructions}
 use Rattle.sh_types.specs.Shuffled.{Shuffled}
 use Rattle.shuf_machine.specs.Meant.{meant}
