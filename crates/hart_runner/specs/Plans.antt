@@ -1,0 +1,6 @@
+-- The schedule of a plan.
+use Rattle.sh_types.specs.Serial.{Schedule}
+use Rattle.hart_runner.specs.declared.plan.Plan.{Plan}
+
+abbrev pub schedule_of : Plan → Schedule
+schedule_of p = record { period = p.period; quantum = p.quantum; steps = p.steps }

@@ -1,0 +1,11 @@
+//! How machines are driven: the serial order.
+#![tactic(auto)]
+
+mod asking;
+mod built;
+mod driven;
+mod plan;
+mod serial;
+
+pub use built::run_built;
+pub use plan::Plan;
