@@ -4,6 +4,7 @@ pub mod Copying
 pub mod Counting
 pub mod Keeping
 pub mod Legal
+pub mod Counted
 pub mod Lists
 pub mod Moving
 pub mod Placing

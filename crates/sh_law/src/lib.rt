@@ -2,6 +2,7 @@
 #![tactic(auto)]
 
 mod examples;
+mod lengths;
 mod reach;
 mod runs;
 
@@ -25,6 +26,7 @@ ghost use Rattle.sh_law.specs.Agrees.{Agrees};
 ghost use Rattle.sh_law.specs.Keeps.{OutSound};
 
 pub use examples::is_met;
+pub use lengths::runs_have_their_length;
 pub use reach::{chains_are_sound, none_points_into_an_erased_copy};
 pub use runs::{
     harts_are_placed, instructions_are_counted, no_live_hart_on_an_erased_layout, owners_are_live,

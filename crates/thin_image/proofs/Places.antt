@@ -1,7 +1,7 @@
 -- The places of a table's entries, one more at the front.
 use Rattle.std.proofs.Common.{◌≡◌, ℕ, suc, ◌+◌, ◌-◌, ◌<◌, ◌≤◌, ◌∷◌, ◌*◌, mul-suc, ap, sym, ◌∙◌, ◌++◌, List, [], append_assoc, arith}
 use Rattle.std.specs.Prelude.{map, filter}
-use Rattle.std.specs.Prelude.{Bool, true, false}
+use Rattle.std.specs.Prelude.{Bool}
 use Rattle.std.proofs.lemmas.Bool.{cases_Bool}
 use Rattle.std.proofs.Common.{inl, inr, refl}
 use Rattle.sh_types.specs.Elf.{places}

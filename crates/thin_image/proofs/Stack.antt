@@ -1,5 +1,5 @@
 -- The first stack, as it is made.
-use Rattle.std.proofs.Common.{◌≡◌, ℕ, true, ap, ◌∙◌}
+use Rattle.std.proofs.Common.{◌≡◌, ℕ, true, ap}
 use Rattle.std.specs.Prelude.{replicate}
 use Rattle.sh_types.specs.declared.code.Region.{Region}
 use Rattle.sh_types.specs.Image.{first_stack, stack_start, stack_end}
