@@ -7,7 +7,7 @@ use Rattle.sh_types.specs.Need.{set_at}
 use Rattle.sh_types.specs.Shuffled.{owned}
 use Rattle.guest_mem.specs.Held.{Held, words_of, owner_of_byte, mapped_in}
 
-abbrev held : ℕ → List ℕ → List ℕ → Held
+abbrev pub held : ℕ → List ℕ → List ℕ → Held
 held first values owners = record { first = first; values = values; owners = owners }
 
 pub put_both : (first : ℕ) (values owners : List ℕ) (w v b : ℕ) → first ≤ w → w - first < length values → length values ≡ length owners → words_of (held first (slice_set values (w - first) v) (slice_set owners (w - first) b)) ≡ set_at (words_of (held first values owners)) w (owned v (owner_of_byte b))
@@ -23,7 +23,7 @@ put_both first values owners w v b low lt len = fun_ext (λ x. by x (x == w) ref
         rw (e, f) (ap (λ y. owned y (owner_of_byte (slice_index (slice_set owners (w - first) b) (x - first)))) (get_or-set_other values (w - first) (x - first) v 0 ne) ∙ ap (λ y. owned (slice_index values (x - first)) (owner_of_byte y)) (get_or-set_other owners (w - first) (x - first) b 0 ne))
     by x false e false f = rw (e, f) refl
 
-past_zero : (os : List ℕ) (i : ℕ) → length os ≤ i → slice_index os i ≡ 0
+pub past_zero : (os : List ℕ) (i : ℕ) → length os ≤ i → slice_index os i ≡ 0
 past_zero [] i l = refl
 past_zero (o ∷ os) zero l = absurd (omega (arith, l))
 past_zero (o ∷ os) (suc i) l = past_zero os i (omega (arith, l))

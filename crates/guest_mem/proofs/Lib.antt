@@ -1,3 +1,5 @@
+pub mod Bytes
+pub mod Clearing
 pub mod Holding
 pub mod Opening
 pub mod Ranges

@@ -1,5 +1,5 @@
 -- Ranges of the one region.
-use Rattle.std.proofs.Common.{◌≡◌, ℕ, zero, suc, ◌+◌, ◌*◌, ◌<◌, Bool, true, false, [], ◌∷◌, length, refl, sym, ap, ◌∙◌, arith}
+use Rattle.std.proofs.Common.{◌≡◌, ℕ, zero, suc, ◌+◌, ◌*◌, ◌<◌, ◌≤◌, Bool, true, false, [], ◌∷◌, length, refl, sym, ap, ◌∙◌, arith}
 use Rattle.std.specs.Prelude.{nat_le, nat_lt, ◌&&◌, ◌||◌}
 use Rattle.std.specs.List.{list_any}
 use Rattle.std.proofs.lemmas.Bool.Decides.{nat_tests}
@@ -55,3 +55,10 @@ writes_some m a (suc n) h = sym (each_is _ (8 * m.first) (8 * (m.first + length 
 -- a byte of a range is one of a word of the region
 pub within_mapped : (m : Held) (a n : ℕ) → length m.values ≡ length m.owners → 0 < n → (nat_le (8 * m.first) a && nat_le (a + n) (8 * (m.first + length m.values))) ≡ true → mapped_in m a ≡ true
 within_mapped m a n len h e = grind (arith, nat_tests, len)
+
+-- what can be read lies below the end of the region
+pub reads_below : (m : Held) (a n k : ℕ) → readable (regions_of m) a n ≡ true → k < n → a + k < 8 * (m.first + length m.values)
+reads_below m a n k e lt =
+    let r = reads_some m a n (omega (arith, lt)) ∙ e in
+    let le : a + n ≤ 8 * (m.first + length m.values) = grind (arith, nat_tests, r) in
+    omega (arith, le, lt)

@@ -1,7 +1,7 @@
 -- The words of a memory of one region of whole words, each with its owner's number plus one, or 0.
 use Rattle.std.specs.Prelude.{ℕ, ◌+◌, ◌-◌, ◌*◌, ◌/◌, ◌==◌, ◌&&◌, nat_le, nat_lt, Bool, true, List, [], ◌∷◌, Option, Some, None, length, slice_index, if◌then◌else◌}
 use Rattle.sh_types.specs.declared.code.Region.{Region}
-use Rattle.sh_types.specs.Shuffled.{Owned, owned}
+use Rattle.sh_types.specs.Shuffled.{Owned, owned, plain_value}
 
 pub record Held : Type 0 where
   -- the number of the first word
@@ -17,6 +17,10 @@ abbrev pub words_of : Held → ℕ → Owned
 words_of m w =
     if nat_le m.first w then owned (slice_index m.values (w - m.first)) (owner_of_byte (slice_index m.owners (w - m.first)))
     else owned 0 None
+
+-- the number of the word with this number; none where a hart owns it
+abbrev pub plain_of : Held → ℕ → Option ℕ
+plain_of m w = plain_value (words_of m w)
 
 -- the region, without its bytes
 abbrev pub region_of : Held → Region

@@ -1,11 +1,12 @@
 //! The memory of a guest.
-ghost use Rattle.std.specs.Prelude.{◌≡◌, ◌≢◌, ℕ, ◌+◌, ◌*◌, ◌/◌, ◌%◌, ◌<◌, ◌≤◌, ◌^◌, ◌&&◌, nat_le, true, Some, None, [], ◌∷◌, length, IfOk, IfSome, IfNone, option_map};
+ghost use Rattle.std.specs.Prelude.{◌≡◌, ◌≢◌, ℕ, ◌+◌, ◌*◌, ◌/◌, ◌%◌, ◌<◌, ◌≤◌, ◌^◌, ◌==◌, ◌&&◌, nat_le, true, Some, None, [], ◌∷◌, length, slice_index, if◌then◌else◌, ◌++◌, ◌↔◌, IsTrue, IsSome, IsNone, unwrap_or, IfOk, OnOk, OnErr, IfSome, IfNone, option_map};
 ghost use Rattle.sh_types.specs.Image.{first_stack};
-ghost use Rattle.sh_types.specs.Memory.{readable as readable_of, writable as writable_of, first_word, byte_of};
+ghost use Rattle.sh_types.specs.Memory.{readable as readable_of, writable as writable_of, first_word, byte_of, bytes_from};
 ghost use Rattle.sh_types.specs.Need.{set_at};
-ghost use Rattle.sh_types.specs.Shuffled.{owned};
-ghost use Rattle.guest_mem.specs.Held.{words_of, regions_of, owner_of_byte, mapped_in};
+ghost use Rattle.sh_types.specs.Shuffled.{owned, cleared};
+ghost use Rattle.guest_mem.specs.Held.{words_of, plain_of, regions_of, owner_of_byte, mapped_in};
 
+use crate::parts::part;
 use sh_types::{Items, NoMemory, Region};
 use std::alloc::Global;
 use std::marker::Model;
@@ -84,6 +85,72 @@ impl GuestMem {
         is_within(self.first, self.values.len() as u64, address, length)
     }
 
+    /// The address behind the last byte.
+    fn end(&self) -> u64
+        ensures is { result ≡ 8 * (self.now.first + length self.now.values) }
+        ensures many { length self.now.values ≡ length self.now.owners }
+        ensures low { result ≤ 2 ^ 62 }
+    {
+        8 * (self.first + self.values.len() as u64)
+    }
+
+    /// The byte at an address, 0 where it cannot be read; None where it lies in a return word.
+    #[tactic(auto, using(crate::proofs::Bytes::byte_none, crate::proofs::Bytes::byte_some, crate::proofs::Bytes::byte_small))]
+    fn byte(&self, address: u64) -> Option<u8>
+        ensures { result ≡ byte_of (plain_of self.now) address }
+    {
+        let (word, owner) = self.word(address);
+        if owner != 0 {
+            return None;
+        }
+        Some(part(address, 1, word) as u8)
+    }
+
+    /// Whether one of `length` bytes from an address on lies in a return word. It takes no memory.
+    pub fn holds_return(&self, address: u64, length: u64) -> bool
+        ensures { IsTrue result ↔ IsNone (bytes_from (plain_of self.now) address length) }
+    {
+        let end = self.end();
+        if address >= end {
+            return false;
+        }
+        for k in 0..length {
+            if k >= end - address {
+                return false;
+            }
+            if self.byte(address + k).is_none() {
+                return true;
+            }
+        }
+        false
+    }
+
+    /// The `length` bytes from an address on join the list. Err, and no change, only where memory is refused.
+    pub fn append_to(&self, output: &mut Vec<u8>, address: u64, length: u64) -> Result<(), NoMemory>
+        requires readable { readable_of (regions_of self.now) address length ≡ true }
+        requires plain { IsSome (bytes_from (plain_of self.now) address length) }
+        ensures ok { OnOk result (output.new.items ≡ output.old.items ++ unwrap_or (bytes_from (plain_of self.now) address length) []) }
+        ensures err { OnErr result (output.new.items ≡ output.old.items) }
+    {
+        output.reserve(length as usize)?;
+        // What can be read lies below this, so no address passes 2^64.
+        let _end = self.end();
+        for k in 0..length {
+            let byte = self.byte(address + k).unwrap_or(0);
+            output.push_reserved(byte);
+        }
+        Ok(())
+    }
+
+    /// The return words of a hart become zero and nobody's. It takes no memory.
+    pub fn clear_owned(&mut self, hart: u32)
+        requires { hart < 64 }
+        ensures words { words_of self.new ≡ cleared hart (words_of self.old) }
+        ensures regions { regions_of self.new ≡ regions_of self.old }
+    {
+        clear(&mut self.values, &mut self.owners, hart as u8 + 1);
+    }
+
     /// The word is one of the region.
     pub(crate) fn is_mapped(&self, address: u64) -> bool
         ensures { result ≡ mapped_in self.now address }
@@ -119,6 +186,20 @@ fn zeroed(alloc: Global, first: u64, count: usize) -> Result<GuestMem, NoMemory>
         values,
         owners,
     })
+}
+
+/// Each word with this owner's byte becomes zero and nobody's.
+fn clear(values: &mut [u64], owners: &mut [u8], owner: u8)
+    requires { length values.old ≡ length owners.old }
+    ensures values { (k : ℕ) → slice_index values.new k ≡ (if slice_index owners.old k == owner then 0 else slice_index values.old k) }
+    ensures owners { (k : ℕ) → slice_index owners.new k ≡ (if slice_index owners.old k == owner then 0 else slice_index owners.old k) }
+{
+    for i in 0..owners.len() {
+        if owners[i] == owner {
+            values[i] = 0;
+            owners[i] = 0;
+        }
+    }
 }
 
 /// A range lies within so many words from one on.

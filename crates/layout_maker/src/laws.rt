@@ -1,5 +1,5 @@
 //! Laws of the layout rule, as clauses of functions that do nothing.
-ghost use Rattle.std.specs.Prelude.{◌≡◌, ◌≢◌, ℕ, ◌+◌, ◌-◌, ◌%◌, ◌≤◌, ◌<◌, List, [], length, min, IsPermutation};
+ghost use Rattle.std.specs.Prelude.{◌≡◌, ◌≢◌, ℕ, ◌+◌, ◌-◌, ◌%◌, ◌^◌, ◌≤◌, ◌<◌, List, [], length, min, slice_index, IsPermutation};
 ghost use Rattle.std.specs.List.{range_with_len};
 ghost use Rattle.sh_types.specs.declared.code.Pair.{Pair};
 ghost use Rattle.sh_types.specs.Place.{WellPlaced, IsPair, place_of};
@@ -38,4 +38,10 @@ pub fn gaps_are_within_shares()
 pub fn recent_cells_are_counted()
     ensures first { (seed : List ℕ) → recent_of seed 1 ≡ [] }
     ensures many { (seed : List ℕ) (k : ℕ) → length (recent_of seed k) ≡ min (k - 1) 64 }
+{}
+
+/// A layout has the sizes that it was made for, and each of its keys is a 64-bit number.
+pub fn keys_are_words()
+    ensures sizes { (sizes seed : List ℕ) (k : ℕ) → (layout_of sizes seed k).sizes ≡ sizes }
+    ensures keys { (sizes seed : List ℕ) (k n : ℕ) → slice_index (layout_of sizes seed k).keys n < 2 ^ 64 }
 {}

@@ -1,0 +1,4 @@
+pub mod Meant
+pub mod Next
+pub mod Past
+pub mod Run
