@@ -1,5 +1,5 @@
 //! The copy, function by function.
-ghost use Rattle.std.specs.Prelude.{◌≡◌, ℕ, ◌+◌, ◌*◌, ◌≤◌, ◌<◌, ◌^◌, ◌/◌, ◌%◌, length, slice_index, IfOk};
+ghost use Rattle.std.specs.Prelude.{◌≡◌, ℕ, ◌+◌, ◌*◌, ◌<◌, ◌^◌, ◌/◌, length, slice_index, IfOk};
 ghost use Rattle.sh_types.specs.Copy.{IsCopyable, moved_word, literal_number, literals_below, copy_of};
 ghost use Rattle.sh_types.specs.Image.{sizes_of};
 ghost use Rattle.sh_types.specs.Place.{WellPlaced, IsPair, cell_start};

@@ -1,5 +1,5 @@
 //! The cell of a layout.
-ghost use Rattle.std.specs.Prelude.{◌≡◌, ◌≤◌, ◌<◌, ◌-◌, ◌%◌, length, slice_index};
+ghost use Rattle.std.specs.Prelude.{◌≡◌, ◌≤◌, ◌-◌, ◌%◌, length, slice_index};
 ghost use Rattle.layout_maker.specs.Cell.{cell_by, free_from};
 
 /// The cell that a draw gives, where these were used lately.

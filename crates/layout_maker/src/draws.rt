@@ -1,5 +1,5 @@
 //! The draws of 64 bits from the stream of a layout.
-ghost use Rattle.std.specs.Prelude.{◌≡◌, ◌+◌, ◌*◌, ◌<◌, ◌^◌};
+ghost use Rattle.std.specs.Prelude.{◌≡◌, ◌*◌, ◌<◌, ◌^◌};
 ghost use Rattle.layout_maker.specs.Draws.{draws_of, skip, generator_of};
 
 use rand_chacha::ChaCha20Rng;

@@ -1,9 +1,8 @@
 //! The layout with a number.
-ghost use Rattle.std.specs.Prelude.{◌≡◌, ◌%◌, ℕ, [], ◌∷◌, ◌++◌, ◌+◌, ◌-◌, ◌*◌, ◌≤◌, ◌<◌, ◌^◌, IfOk, length, slice_index};
+ghost use Rattle.std.specs.Prelude.{◌≡◌, [], ◌∷◌, ◌++◌, ◌+◌, ◌-◌, ◌*◌, ◌≤◌, ◌<◌, ◌^◌, IfOk, length};
 ghost use Rattle.sh_types.specs.Place.{WellPlaced, cell_start};
-ghost use Rattle.layout_maker.specs.Draws.{draws_of, skip, from_draw};
+ghost use Rattle.layout_maker.specs.Draws.{draws_of, skip};
 ghost use Rattle.layout_maker.specs.Cell.{cell_of, recent_of};
-ghost use Rattle.layout_maker.specs.Order.{order_by};
 ghost use Rattle.sh_types.specs.Sized.{total as total_of};
 ghost use Rattle.sh_types.specs.Recent.{last_64};
 ghost use Rattle.sh_types.specs.Sized.{IsSized};

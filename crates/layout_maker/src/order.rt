@@ -1,8 +1,8 @@
 //! The order in which the functions lie.
-ghost use Rattle.std.specs.Prelude.{◌≡◌, ◌+◌, ◌-◌, ◌*◌, ◌≤◌, ◌<◌, ◌^◌, IfOk, length, ℕ, slice_index};
+ghost use Rattle.std.specs.Prelude.{◌≡◌, ◌+◌, ◌-◌, ◌≤◌, ◌<◌, ◌^◌, IfOk, length, ℕ, slice_index};
 ghost use Rattle.std.specs.List.{range_with_len};
 ghost use Rattle.layout_maker.specs.Draws.{draws_of, skip};
-ghost use Rattle.layout_maker.specs.Order.{order_by, swapped};
+ghost use Rattle.layout_maker.specs.Order.{order_by};
 
 use crate::draws::draw;
 use rand_chacha::ChaCha20Rng;

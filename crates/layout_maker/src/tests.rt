@@ -1,5 +1,5 @@
 //! The first layouts under the zero seed, by values from an independent program.
-ghost use Rattle.std.specs.Prelude.{◌≡◌, ◌≤◌, ◌<◌, IfOk, length};
+ghost use Rattle.std.specs.Prelude.{◌≡◌, ◌<◌, IfOk};
 ghost use Rattle.sh_types.specs.Sized.{IsSized};
 ghost use Rattle.layout_maker.specs.Layout.{layout_of};
 

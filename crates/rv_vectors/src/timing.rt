@@ -17,7 +17,8 @@ fn checksum(words: &[u32], mut sum: u64) -> u64 {
     for &word in words {
         if let Some(instr) = decode(word) {
             let registers = u64::from(instr.rd) ^ u64::from(instr.rs1) ^ u64::from(instr.rs2);
-            sum = sum.rotate_left(1) ^ instr.imm.cast_unsigned() ^ registers;
+            let fields = instr.imm.cast_unsigned() ^ registers;
+            sum = sum.rotate_left(1).wrapping_add(fields);
         }
     }
     sum

@@ -8,6 +8,7 @@ pub mod Lists
 pub mod Moving
 pub mod Placing
 pub mod Premises
+pub mod Reached
 pub mod Reading
 pub mod Stepping
 pub mod Whole

@@ -2,6 +2,7 @@
 #![tactic(auto)]
 
 mod examples;
+mod reach;
 mod runs;
 
 ghost use Rattle.std.specs.Prelude.{◌≡◌, ℕ, Some, length};
@@ -24,6 +25,7 @@ ghost use Rattle.sh_law.specs.Agrees.{Agrees};
 ghost use Rattle.sh_law.specs.Keeps.{OutSound};
 
 pub use examples::is_met;
+pub use reach::{chains_are_sound, none_points_into_an_erased_copy};
 pub use runs::{
     harts_are_placed, instructions_are_counted, no_live_hart_on_an_erased_layout, owners_are_live,
     restores_meet_their_own, seeds_do_not_matter, states_stand,

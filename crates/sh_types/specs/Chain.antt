@@ -1,5 +1,6 @@
--- The frames of a hart, from its pc on, and when they are sound.
-use Rattle.std.specs.Prelude.{◌≡◌, ℕ, ◌+◌, ◌*◌, ◌%◌, ◌^◌, ◌<◌, ◌==◌, ◌||◌, Bool, true, false, Option, Some, None, List, [], ◌∷◌, slice_index, if◌then◌else◌}
+-- The frames of a hart, from its pc on, when they are sound, and what points into a copy. Calls and frames are those of
+-- the RISC-V psABI, "Integer Calling Convention"; the rest is this project's own.
+use Rattle.std.specs.Prelude.{◌≡◌, ◌≢◌, ◌⊎◌, ℕ, ◌+◌, ◌*◌, ◌%◌, ◌^◌, ◌<◌, ◌≤◌, ◌==◌, ◌||◌, Bool, true, false, Option, Some, None, List, [], ◌∷◌, slice_get, slice_index, if◌then◌else◌}
 use Rattle.sh_types.specs.declared.code.Pair.{Pair}
 use Rattle.sh_types.specs.declared.code.CodeRef.{CodeRef}
 use Rattle.sh_types.specs.declared.code.CodeRef.TheVariants.{Root, At}
@@ -7,7 +8,11 @@ use Rattle.sh_types.specs.declared.code.RaPlace.{RaPlace}
 use Rattle.sh_types.specs.declared.code.RaPlace.TheVariants.{Reg, Slot, Dropped}
 use Rattle.sh_types.specs.declared.code.FrameState.{FrameState}
 use Rattle.sh_types.specs.declared.code.Image.{Image}
-use Rattle.sh_types.specs.Place.{pair}
+use Rattle.sh_types.specs.declared.layouts.Layout.{Layout}
+use Rattle.sh_types.specs.declared.runs.Hart.{Hart}
+use Rattle.sh_types.specs.Cipher.{unseal}
+use Rattle.sh_types.specs.Place.{pair, cell_start}
+use Rattle.sh_types.specs.Shuffled.{Setting, Shuffled, key_of}
 use Rattle.sh_types.specs.Image.{row_at}
 use Rattle.sh_types.specs.Kind.{CallsTo, kind_at}
 use Rattle.sh_types.specs.Frame.{IsLoose}
@@ -94,3 +99,57 @@ pub record Sound (image : Image) (t : Thread) (u : ℕ → Cell) : Type 0 where
   pub chain : PcChain image (mine t.number u) t.at.func slots row.ra (top_of (slice_index t.regs 2) row.depth) t.ra
   pub rises : Rises slots
   pub exact : (w : ℕ) → is_some (mine t.number u w) ≡ among slots w
+
+-- ---- the frames with no more than each of them says
+
+-- the slots of the frames behind a return address, where sp is top there
+abbrev pub AreFrames : Image → (ℕ → Option CodeRef) → List ℕ → CodeRef → ℕ → Type 0
+AreFrames image mine [] Root top = Unit {0}
+AreFrames image mine [] (At q) top = (row : FrameState) × Behind image q row × IsLoose row.ra
+AreFrames image mine (w ∷ ws) Root top = ⊥
+AreFrames image mine (w ∷ ws) (At q) top =
+    (row : FrameState) × Behind image q row × IsSlot row.ra (top_of top row.depth) w × ((r : CodeRef) × (mine w ≡ Some r) × AreFrames image mine ws r (top_of top row.depth))
+
+-- the slots of all frames, from the state of the pc on
+abbrev pub FramesFrom : Image → (ℕ → Option CodeRef) → List ℕ → RaPlace → ℕ → Option CodeRef → Type 0
+FramesFrom image mine ws Reg top None = ⊥
+FramesFrom image mine ws Reg top (Some r) = AreFrames image mine ws r top
+FramesFrom image mine [] (Slot below) top ra = ⊥
+FramesFrom image mine (w ∷ ws) (Slot below) top ra =
+    (8 * w + below ≡ top) × ((r : CodeRef) × (mine w ≡ Some r) × AreFrames image mine ws r top)
+FramesFrom image mine ws Dropped top ra = ws ≡ []
+
+-- The chain of a thread is sound: the pc has a row, in Reg ra is marked, each return address is the root or behind a
+-- call that has a row, the slots rise, and they are exactly the words that the hart owns.
+pub record IsSound (image : Image) (t : Thread) (u : ℕ → Cell) : Type 0 where
+  pub row : FrameState
+  pub row_is : row_at image t.at ≡ Some row
+  pub ra : RaFine image t.ra
+  pub slots : List ℕ
+  pub frames : FramesFrom image (mine t.number u) slots row.ra (top_of (slice_index t.regs 2) row.depth) t.ra
+  pub rises : Rises slots
+  pub exact : (w : ℕ) → is_some (mine t.number u w) ≡ among slots w
+
+-- ---- what points into the copy of a layout
+
+-- the address lies in the cell of the layout
+abbrev pub IsInCell : Layout → ℕ → Type 0
+IsInCell l a = (cell_start l.cell ≤ a) × (a < cell_start l.cell + 1048576)
+
+-- no live layout but this one has its cell
+abbrev pub IsAloneInCell : Setting → Shuffled → ℕ → Type 0
+IsAloneInCell o s k = (l : ℕ) → (l ≡ s.newest) ⊎ ((s.older ≡ true) × (l + 1 ≡ s.newest)) → l ≢ k → (o.layout_at l).cell ≢ (o.layout_at k).cell
+
+-- a live hart's pc, its marked ra, or a return word of it once opened
+pub data CodeAddress (o : Setting) (s : Shuffled) (a : ℕ) : Type 0 where
+  Pc : (n : ℕ) (h : Hart) → slice_get s.harts n ≡ Some h → h.live ≡ true → a ≡ h.pc → CodeAddress o s a
+  Ra : (n : ℕ) (h : Hart) → slice_get s.harts n ≡ Some h → h.live ≡ true → h.marked ≡ true → a ≡ slice_index h.regs 1 → CodeAddress o s a
+  Word : (n w : ℕ) (h : Hart) → slice_get s.harts n ≡ Some h → h.live ≡ true → (s.words w).owner ≡ Some h.number → a ≡ unseal (key_of (o.layout_at h.layout) h.number) (8 * w) (s.words w).value → CodeAddress o s a
+
+-- a code address other than the root's lies in the cell of the layout, which no other live layout has
+pub record PointsInto (o : Setting) (s : Shuffled) (k : ℕ) : Type 0 where
+  pub address : ℕ
+  pub is : CodeAddress o s address
+  pub no_root : address ≢ 0
+  pub inside : IsInCell (o.layout_at k) address
+  pub alone : IsAloneInCell o s k

@@ -131,11 +131,13 @@ copy_of image l = record { number = l.number; start = cell_start l.cell; words =
 
 -- ---- what copying needs of an image
 
+-- where the class is that of a direct call or jump, it leads to one of n functions
 abbrev pub goes_to : ℕ → Site → Bool
 goes_to n (DirectCall g) = nat_lt g n
 goes_to n (DirectTail g) = nat_lt g n
 goes_to n _ = true
 
+-- the class is that of an indirect call or jump
 abbrev pub is_through : Site → Bool
 is_through IndirectCall = true
 is_through IndirectTail = true

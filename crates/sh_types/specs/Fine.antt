@@ -1,4 +1,4 @@
--- The images that are run: words, classes and frames fit each other.
+-- The images that are run: words, classes and frames fit each other. This project's own.
 use Rattle.std.specs.Prelude.{◌≡◌, ℕ, ◌<◌, ◌≤◌, ◌%◌, ◌^◌, ◌==◌, ◌&&◌, ◌||◌, true, Option, Some, None, length, slice_index, slice_get}
 use Rattle.sh_types.specs.declared.code.FrameState.{FrameState}
 use Rattle.sh_types.specs.declared.code.Image.{Image}

@@ -1,6 +1,5 @@
 -- Frames: what an instruction does to a frame's state, and tables of states that are closed under the words of their
--- functions. A state says how far sp is below its value on entry and where the return address is; sp is a multiple of
--- nothing here. (RISC-V psABI, "Integer Calling Convention"; the rules are this project's own.)
+-- functions. A state says how far sp is below its value on entry and where the return address is. (RISC-V psABI, "Integer Calling Convention"; the rules are this project's own.)
 use Rattle.std.specs.Prelude.{◌≡◌, ◌≢◌, ℕ, ℤ, ◌^◌, ◌<◌, ◌≤◌, ◌==◌, ◌&&◌, Bool, true, false, Some, length, if◌then◌else◌}
 use Rattle.sh_types.specs.declared.code.FrameState.{FrameState}
 use Rattle.sh_types.specs.declared.code.Image.{Image}

@@ -1,4 +1,4 @@
--- Layouts: the address of a pair, and the pair at an address.
+-- Layouts: the address of a pair, and the pair at an address. This project's own.
 use Rattle.std.specs.Prelude.{ℕ, suc, ◌+◌, ◌-◌, ◌*◌, ◌%◌, ◌<◌, ◌≤◌, ◌≡◌, ◌≢◌, ◌⊎◌, ◌==◌, ◌&&◌, Bool, nat_le, Option, Some, None, List, [], ◌∷◌, length, slice_index, if◌then◌else◌}
 use Rattle.sh_types.specs.declared.layouts.Layout.{Layout}
 use Rattle.sh_types.specs.declared.code.Pair.{Pair}
