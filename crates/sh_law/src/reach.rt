@@ -14,8 +14,9 @@ pub fn chains_are_sound()
     ensures { (o : Setting) (events : List Event) (n : ℕ) (t : Thread) → IsSetting o → IsLegalIn o events → slice_get (unmoved_run o.image (written events)).threads n ≡ Some t → t.live ≡ true → IsSound o.image t (unmoved_run o.image (written events)).cells }
 {}
 
-/// A layout that a live hart's pc, its marked ra or a return word of it points into is live. A code address points
-/// into a layout where it lies in the layout's cell, no other live layout has that cell, and it is not 0, the root's.
+/// A layout that a live hart's pc, its marked ra or a return word of it, once opened, points into is live. A code
+/// address points into a layout where it lies in the layout's cell, no other live layout has that cell, and it is
+/// not 0, the root's.
 pub fn none_points_into_an_erased_copy()
     ensures { (o : Setting) (events : List Event) (k : ℕ) → IsSetting o → IsLegalIn o events → PointsInto o (state_after o events) k → IsOn (state_after o events).newest (state_after o events).older k }
 {}

@@ -19,7 +19,8 @@ lies_in bytes start size = nat_le (start + size) (length bytes)
 abbrev pub has : ℕ → ℕ → Bool
 has flags mask = not (bit_and flags mask == 0)
 
--- ---- the header: e_ident and the fields behind it
+-- ---- the header: EI_MAG0 to EI_MAG3, EI_CLASS, EI_DATA and EI_VERSION of e_ident, and e_type, e_machine,
+-- e_version and e_entry
 
 abbrev pub magic_of : List ℕ → ℕ
 magic_of bytes = number_at 4 bytes 0
@@ -45,7 +46,7 @@ version_of bytes = number_at 4 bytes 20
 abbrev pub entry_of : List ℕ → ℕ
 entry_of bytes = number_at 8 bytes 24
 
--- where the program headers and the section headers begin in the file, and how many there are
+-- where the program headers and the section headers begin in the file, e_flags, and how many headers there are
 abbrev pub program_at : List ℕ → ℕ
 program_at bytes = number_at 8 bytes 32
 

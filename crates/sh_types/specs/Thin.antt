@@ -41,6 +41,7 @@ has_thin_header b =
 abbrev pub code_size : List ℕ → ℕ
 code_size b = (program b 64).segment.file_size
 
+-- a multiple of 4 from 4 to 524,288
 abbrev pub is_code_size : ℕ → Bool
 is_code_size n = (n % 4 == 0) && nat_le 4 n && nat_le n 524288
 
@@ -56,6 +57,7 @@ has_thin_programs b =
 unfoldable pub symbols_head : List ℕ → Head
 symbols_head b = head_at b (section_at b + 320)
 
+-- the symbol table lies in the file and has whole entries
 unfoldable pub has_thin_symbols : List ℕ → Bool
 has_thin_symbols b = lies_in b (symbols_head b).file_at (symbols_head b).size && ((symbols_head b).size % 24 == 0)
 
@@ -65,6 +67,7 @@ has_thin_symbols b = lies_in b (symbols_head b).file_at (symbols_head b).size &&
 unfoldable pub thin_functions : List ℕ → List RawSymbol
 thin_functions b = filter (λ (s : RawSymbol). s.kind == 2) (map (raw_symbol b) (places 24 (symbols_head b).file_at ((symbols_head b).size / 24)))
 
+-- where functions start
 abbrev pub starts_of : List RawSymbol → List ℕ
 starts_of functions = map (λ (f : RawSymbol). f.value) functions
 
@@ -83,12 +86,14 @@ words_of b f = map (number_at 4 b) (places 4 (f.value - 0xf000) (f.size / 4))
 
 -- ---- the words
 
+-- LUI, ADDI and ADD
 abbrev pub computes : Op → Bool
 computes Lui = true
 computes Addi = true
 computes Add = true
 computes _ = false
 
+-- the mnemonics by themselves
 abbrev pub is_addi : Op → Bool
 is_addi Addi = true
 is_addi _ = false
@@ -135,6 +140,7 @@ unfoldable pub is_entry_instr : List ℕ → ℕ → ℕ → Instr → Bool
 is_entry_instr starts entry address i =
     is_plain i || moves_sp i || is_sb i.op || is_ecall i.op || is_call starts entry address i
 
+-- a word that has an instruction of these kinds
 abbrev pub is_plain_word : Option Instr → Bool
 is_plain_word None = false
 is_plain_word (Some i) = is_plain i
@@ -179,6 +185,7 @@ has_thin_code b functions =
     && follow 0x10000 (0x10000 + code_size b) functions
     && are_entered b functions
 
+-- a thin file
 unfoldable pub is_thin : List ℕ → Bool
 is_thin b = has_thin_header b && has_thin_programs b && has_thin_symbols b && has_thin_code b (thin_functions b)
 
@@ -188,6 +195,7 @@ is_thin b = has_thin_header b && has_thin_programs b && has_thin_symbols b && ha
 abbrev pub function_of : RawSymbol → Function
 function_of f = record { home = f.value; size = f.size; name = [] }
 
+-- the class of a call of a function
 abbrev pub call_site : Option ℕ → Site
 call_site None = Plain
 call_site (Some g) = DirectCall g
@@ -200,6 +208,7 @@ instr_site starts address i =
     else if is_jal i.op then call_site (callee_of starts address i)
     else Plain
 
+-- the class of the word that has an instruction; a thin file has no other words
 abbrev pub word_site : List ℕ → ℕ → Option Instr → Site
 word_site starts address None = Plain
 word_site starts address (Some i) = instr_site starts address i
@@ -226,6 +235,7 @@ state_behind i s =
     else if moves_sp i then Some (record { depth = small_depth (pos s.depth -ℤ i.imm); ra = s.ra })
     else Some s
 
+-- the same where no path comes, or the word has no instruction
 abbrev pub word_behind : Option Instr → Option FrameState → Option FrameState
 word_behind None s = None
 word_behind (Some i) None = None
@@ -236,9 +246,11 @@ abbrev pub states_from : Option FrameState → List ℕ → List (Option FrameSt
 states_from s [] = s ∷ []
 states_from s (w ∷ ws) = s ∷ states_from (word_behind (decoded w) s) ws
 
+-- the frames of a function with these words
 abbrev pub frames_of : List ℕ → FrameTable
 frames_of words = record { rows = states_from (Some entered) words }
 
+-- the image of these functions: one region, no literals, no rows of the pointer table
 unfoldable pub image_of : List ℕ → List RawSymbol → Image
 image_of b functions =
     let starts = starts_of functions in

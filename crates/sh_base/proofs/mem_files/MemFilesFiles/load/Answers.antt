@@ -1,0 +1,9 @@
+use Rattle.std.proofs.Common.{◌∙◌, ap}
+use Rattle.sh_base.proofs.Causes.{failed_cause}
+use Rattle.sh_base.proofs.mem_files.MemFilesFiles.load.Goals as goal
+
+pub returns-then-contains-clause-cause : goal.returns-then-contains-clause-cause
+returns-then-contains-clause-cause c = failed_cause _ _ _ _ _ _ c.in_ok-from_str.ensures (c.in_ok-reserve.ensures.items ∙ ap (λ v. v.faults) c.self.view_is) c.push_in_room.ensures
+
+pub returns-in-None-clause-cause : goal.returns-in-None-clause-cause
+returns-in-None-clause-cause c = failed_cause _ _ _ _ _ _ c.in_ok-from_str.ensures (c.in_ok-reserve.ensures.items ∙ ap (λ v. v.faults) c.self.view_is) c.push_in_room-in-None.ensures

@@ -1,0 +1,6 @@
+use Rattle.std.proofs.Common.{◌∙◌, ap}
+use Rattle.sh_base.proofs.Causes.{failed_cause}
+use Rattle.sh_base.proofs.mem_files.MemFilesFiles.store.Goals as goal
+
+pub returns-then-contains-clause-cause : goal.returns-then-contains-clause-cause
+returns-then-contains-clause-cause c = failed_cause _ _ _ _ _ _ c.in_ok-from_str.ensures (c.in_ok-reserve.ensures.items ∙ ap (λ v. v.faults) c.self.view_is) c.push_in_room.ensures
