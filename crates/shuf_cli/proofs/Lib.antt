@@ -1,0 +1,4 @@
+pub mod Headline
+pub mod Loaded
+pub mod Outcome
+pub mod Making

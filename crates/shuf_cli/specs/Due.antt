@@ -1,0 +1,80 @@
+-- What is due to each sink, by the command and by what its load answered.
+use Rattle.std.specs.Prelude.{◌≡◌, ◌⊎◌, ℕ, ◌<◌, nat_lt, if◌then◌else◌, MatchBool, MatchOption, Option, Some, None, List, [], ◌++◌, length, codes}
+use Rattle.sh_base.specs.declared.files.FileCall.{FileCall}
+use Rattle.sh_base.specs.declared.files.FileWord.TheVariants.{Load}
+use Rattle.sh_base.specs.Faults.{fault_count}
+use Rattle.sh_base.specs.Held.{FileMap, Loads}
+use Rattle.sh_types.specs.declared.runs.End.TheVariants.{Exit}
+use Rattle.sh_types.specs.Serial.{Schedule, serial_list}
+use Rattle.sh_types.specs.Thin.{thin_image}
+use Rattle.shuf_machine.specs.declared.answers.Origin.{Origin}
+use Rattle.shuf_machine.specs.Past.{Past, guest_of}
+use Rattle.shuf_machine.specs.Run.{image_of}
+use Rattle.hart_runner.specs.Built.{is_built}
+use Rattle.shuf_cli.specs.declared.words.Command.{Command}
+use Rattle.shuf_cli.specs.declared.words.Command.TheVariants.{Run}
+use Rattle.shuf_cli.specs.declared.due.Due.{Due}
+
+-- the most bytes of a file
+abbrev pub file_limit : ℕ
+file_limit = 16777216
+
+unfoldable pub usage_line : List ℕ
+usage_line = codes "shuffler: usage\n"
+
+unfoldable pub unreadable_line : List ℕ → List ℕ
+unreadable_line name = codes "shuffler: file " ++ name ++ codes " cannot be read\n"
+
+unfoldable pub too_long_line : List ℕ → List ℕ
+too_long_line name = codes "shuffler: file " ++ name ++ codes " is longer than 16777216 bytes\n"
+
+unfoldable pub refused_line : List ℕ
+refused_line = codes "shuffler: refused: not built\n"
+
+-- a refusal: its line alone
+abbrev pub line_due : ℕ → List ℕ → Due
+line_due status line = record { out = None; report = Some line; status = status; end = None; machine = None }
+
+-- the status of an exit
+abbrev pub exit_status : ℕ → ℕ
+exit_status code = if nat_lt 0 code then 1 else 0
+
+-- a run that ended with an exit: all that the unmoved machine wrote
+abbrev pub exit_due : Past → ℕ → Due
+exit_due m code = record { out = Some (guest_of m).output; report = None; status = exit_status code; end = Some (Exit code); machine = Some m }
+
+-- where a run of the file comes from: its input is empty
+abbrev pub origin_of : List ℕ → List ℕ → Origin
+origin_of file seed = record { file = file; input = []; seed = seed }
+
+-- how each run goes: instructions between publications, in a turn at most, and in all
+abbrev pub schedule : Schedule
+schedule = record { period = 100000; quantum = 1000; steps = 100000000 }
+
+-- what a run of the file leaves: the journal is that of the serial order, by the unmoved machine alone
+abbrev pub past_of : (file seed : List ℕ) → Past
+past_of file seed = record { origin = origin_of file seed; journal = serial_list (image_of file) schedule }
+
+-- the unmoved machine comes to an exit with what is built, and the run is made; or nothing is run
+abbrev pub IsRunDue : (file seed : List ℕ) → Due → Type 0
+IsRunDue file seed due =
+    MatchBool (is_built 100000 (image_of file))
+    ((code : ℕ) × ((guest_of (past_of file seed)).end ≡ Some (Exit code)) × (due ≡ exit_due (past_of file seed) code))
+    (due ≡ line_due 12 refused_line)
+
+-- by the file that was loaded
+abbrev pub IsFileDue : List ℕ → List ℕ → List ℕ → Due → Type 0
+IsFileDue name file seed due =
+    MatchBool (nat_lt file_limit (length file)) (due ≡ line_due 11 (too_long_line name))
+    (MatchOption (thin_image file) (due ≡ line_due 12 refused_line) (λ image. IsRunDue file seed due))
+
+-- the load failed, or it answered this file
+abbrev pub IsLoadDue : List ℕ → List ℕ → Option FileMap → List FileCall → List FileCall → Due → Type 0
+IsLoadDue name seed held before now due =
+    ((fault_count name Load before < fault_count name Load now) × (due ≡ line_due 11 (unreadable_line name)))
+    ⊎ ((file : List ℕ) × Loads held name file_limit file × IsFileDue name file seed due)
+
+-- what is due, by the command
+abbrev pub IsDue : Option Command → List ℕ → Option FileMap → List FileCall → List FileCall → Due → Type 0
+IsDue None seed held before now due = due ≡ line_due 10 usage_line
+IsDue (Some (Run name opts)) seed held before now due = IsLoadDue name seed held before now due

@@ -1,0 +1,118 @@
+-- What the top call promises, by its status.
+use Rattle.std.specs.Prelude.{◌≡◌, ◌≢◌, ◌⊎◌, ℕ, ◌≤◌, ◌<◌, ⊤, true, false, List, [], ◌∷◌, length, Option, Some, None, IsSomeAnd, IfSome, MatchOption, Contains}
+use Rattle.std.specs.FinMap as map
+use Rattle.sh_base.specs.declared.files.FileCall.{FileCall}
+use Rattle.sh_base.specs.declared.files.FileWord.TheVariants.{Load}
+use Rattle.sh_base.specs.Faults.{Rose, fault_count}
+use Rattle.sh_base.specs.Held.{FileMap}
+use Rattle.sh_base.specs.Written.{Gains}
+use Rattle.sh_types.specs.Pace.{IsPaced, pace_after}
+use Rattle.sh_types.specs.Thin.{thin_image}
+use Rattle.sh_types.specs.declared.code.Image.{Image}
+use Rattle.sh_types.specs.declared.runs.End.{End}
+use Rattle.sh_types.specs.declared.runs.End.TheVariants.{Exit}
+use Rattle.shuf_machine.specs.Past.{Past, guest_of}
+use Rattle.shuf_machine.specs.Run.{image_of}
+use Rattle.hart_runner.specs.Built.{is_built}
+use Rattle.shuf_cli.specs.declared.words.Command.{Command}
+use Rattle.shuf_cli.specs.declared.words.Command.TheVariants.{Run}
+use Rattle.shuf_cli.specs.declared.words.Opts.{Opts}
+use Rattle.shuf_cli.specs.declared.due.Due.{Due}
+use Rattle.shuf_cli.specs.declared.due.Done.{Done}
+use Rattle.shuf_cli.specs.Answer.{SinkState, CutShort}
+use Rattle.shuf_cli.specs.Due.{IsDue, usage_line, unreadable_line, too_long_line, refused_line, past_of, exit_status, file_limit}
+
+-- what a call met and left outside: what is held, the faults of files, and the two sinks
+pub record World : Type 0 where
+  pub held : Option FileMap
+  pub before : List FileCall
+  pub now : List FileCall
+  pub out : SinkState
+  pub out' : SinkState
+  pub report : SinkState
+  pub report' : SinkState
+
+-- a run of this file
+abbrev pub IsRunOf : Option Command → List ℕ → Type 0
+IsRunOf command name = (opts : Opts) × (command ≡ Some (Run name opts))
+
+-- the file is held under the name, whole, where it is told
+abbrev pub Holds : Option FileMap → List ℕ → List ℕ → Type 0
+Holds held name file = IfSome held (λ files. map.get files name ≡ Some file)
+
+-- under the name a file is held that is longer than the limit, where it is told
+abbrev pub HoldsLong : Option FileMap → List ℕ → Type 0
+HoldsLong held name = IfSome held (λ files. IsSomeAnd (map.get files name) (λ file. file_limit < length file))
+
+-- it is told that no file within the limit is held under the name
+abbrev pub Lacks : Option FileMap → List ℕ → Type 0
+Lacks held name = IsSomeAnd held (λ files. MatchOption (map.get files name) ⊤ (λ file. file_limit < length file))
+
+-- a load of this name failed in this call
+abbrev pub LoadRose : World → List ℕ → Type 0
+LoadRose world name = fault_count name Load world.before < fault_count name Load world.now
+
+-- it is told that the file, within the limit, is held under the name, and none of its loads failed in this call
+pub record IsReadable (world : World) (name file : List ℕ) : Type 0 where
+  pub held : IsSomeAnd world.held (λ files. map.get files name ≡ Some file)
+  pub short : length file ≤ file_limit
+  pub steady : fault_count name Load world.now ≤ fault_count name Load world.before
+
+-- a refusal: out stands, and report gained the line alone
+pub record WroteLine (world : World) (line : List ℕ) : Type 0 where
+  pub out : world.out' ≡ world.out
+  pub report : Gains world.report.written world.report'.written line
+
+-- the file is not thin, or the unmoved machine does not come to an exit with what is built; the seed does not matter
+abbrev pub IsNotBuilt : List ℕ → Type 0
+IsNotBuilt file = MatchOption (thin_image file) ⊤ (λ image. is_built 100000 image ≡ false)
+
+-- the run ended with an exit, and this is its status
+abbrev pub IsExitStatus : Option End → ℕ → Type 0
+IsExitStatus end status = (code : ℕ) × (end ≡ Some (Exit code)) × (status ≡ exit_status code)
+
+-- this machine ran the file, in the serial order, to the exit to which the unmoved machine comes; out gained what that
+-- one writes, and report stands
+pub record IsRun (world : World) (seed file : List ℕ) (m : Past) (done : Done) : Type 0 where
+  pub thin : IsSomeAnd (thin_image file) (λ image. image ≡ image_of file)
+  pub built : is_built 100000 (image_of file) ≡ true
+  pub past : m ≡ past_of file seed
+  pub machine : done.machine ≡ Some m
+  pub end : done.end ≡ (guest_of m).end
+  pub status : IsExitStatus (guest_of m).end done.status
+  pub output : Gains world.out.written world.out'.written (guest_of m).output
+  pub report : world.report' ≡ world.report
+  -- a publication every 100,000 instructions, and 100,000,000 instructions at most
+  pub paced : IsPaced (image_of file) 100000 m.journal
+  pub few : (pace_after (image_of file) m.journal).count ≤ 100000000
+
+-- the answer to a command
+pub record Answered (command : Option Command) (seed : List ℕ) (world : World) (done : Done) : Type 0 where
+  pub statuses : Contains (0 ∷ 1 ∷ 10 ∷ 11 ∷ 12 ∷ 13 ∷ 14 ∷ []) done.status
+  -- the words are no command
+  pub usage : done.status ≡ 10 → (command ≡ None) × WroteLine world usage_line
+  pub no_command : command ≡ None → Contains (10 ∷ 13 ∷ 14 ∷ []) done.status
+  -- the file cannot be read, or is longer than the limit
+  pub file : done.status ≡ 11 → (name : List ℕ) × IsRunOf command name
+      × ((LoadRose world name × WroteLine world (unreadable_line name)) ⊎ (HoldsLong world.held name × WroteLine world (too_long_line name)))
+  pub lacking : (name : List ℕ) → IsRunOf command name → Lacks world.held name → Contains (11 ∷ 13 ∷ 14 ∷ []) done.status
+  -- the file is not thin, or the unmoved machine does not come to an exit with what is built
+  pub refused : done.status ≡ 12 → (name : List ℕ) × IsRunOf command name
+      × (file : List ℕ) × Holds world.held name file × IsNotBuilt file × WroteLine world refused_line
+  pub not_thin : (name file : List ℕ) → IsRunOf command name → IsReadable world name file → thin_image file ≡ None → Contains (12 ∷ 13 ∷ 14 ∷ []) done.status
+  pub not_built : (name file : List ℕ) (image : Image) → IsRunOf command name → IsReadable world name file → thin_image file ≡ Some image
+      → is_built 100000 image ≡ false → Contains (12 ∷ 13 ∷ 14 ∷ []) done.status
+  pub runs : (name file : List ℕ) (image : Image) → IsRunOf command name → IsReadable world name file → thin_image file ≡ Some image
+      → is_built 100000 image ≡ true → Contains (0 ∷ 1 ∷ 13 ∷ 14 ∷ []) done.status
+  pub thin : (name file : List ℕ) → IsRunOf command name → IsReadable world name file → Contains (0 ∷ 1 ∷ 12 ∷ 13 ∷ 14 ∷ []) done.status
+  -- the run ended with an exit
+  pub ran : done.status ≤ 1 → (name : List ℕ) × IsRunOf command name
+      × (file : List ℕ) × Holds world.held name file × (m : Past) × IsRun world seed file m done
+  -- a sink failed: a front of what is due was taken
+  pub sink : done.status ≡ 13 → Rose world.out.faults world.out'.faults ⊎ Rose world.report.faults world.report'.faults
+  pub short : done.status ≡ 13 → (due : Due) × IsDue command seed world.held world.before world.now due
+      × CutShort due world.out world.out' world.report world.report' × (done.end ≡ due.end) × (done.machine ≡ due.machine)
+  -- memory was refused: nothing was written
+  pub memory : done.status ≡ 14 → (world.out' ≡ world.out) × (world.report' ≡ world.report)
+  -- there is an end and a machine only where a run was made
+  pub unmade : 10 ≤ done.status → done.status ≢ 13 → (done.end ≡ None) × (done.machine ≡ None)

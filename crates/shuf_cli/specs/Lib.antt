@@ -1,0 +1,5 @@
+pub mod Answer
+pub mod Answers
+pub mod Due
+pub mod Headline
+pub mod Words

@@ -1,0 +1,29 @@
+-- The words of a command line, and the command that they are.
+use Rattle.std.specs.Prelude.{ℕ, ◌&&◌, Bool, true, false, not, if◌then◌else◌, List, [], ◌∷◌, map, length, codes, Option, Some, None, string_bytes, String, nat_lt, nat_eq}
+use Rattle.std.specs.List.{starts_with}
+use Rattle.std.specs.Cmp.Lexicographic.{pointwise}
+use Rattle.std.specs.declared.alloc.Global.{Global}
+use Rattle.shuf_cli.specs.declared.words.Command.{Command}
+use Rattle.shuf_cli.specs.declared.words.Command.TheVariants.{Run}
+use Rattle.shuf_cli.specs.declared.words.Opts.{Opts}
+
+-- two texts are one
+abbrev pub same : List ℕ → List ℕ → Bool
+same a b = pointwise nat_eq a b
+
+abbrev pub texts : List (String Global) → List (List ℕ)
+texts words = map (λ w. string_bytes w) words
+
+-- a file word is not empty and does not begin with two dashes
+abbrev pub is_file_word : List ℕ → Bool
+is_file_word word = nat_lt 0 (length word) && not (starts_with nat_eq word (codes "--"))
+
+-- the options where the words give none
+abbrev pub default_opts : Opts
+default_opts = record { seed = None; period = 100000; quantum = 1000; steps = 100000000; workers = 4; serial = true; input = None; full = false }
+
+-- the command, or none where the words are none: `run FILE --serial`
+abbrev pub command_of : List (List ℕ) → Option Command
+command_of (verb ∷ file ∷ option ∷ []) =
+    if same verb (codes "run") && same option (codes "--serial") && is_file_word file then Some (Run file default_opts) else None
+command_of _ = None

@@ -1,0 +1,275 @@
+//! The top call over files and sinks in memory. The guest writes `hi` and a line feed, and exits.
+use crate::{serial_command, shuffler_main};
+use sh_base::{MemFiles, MemSink, NoGate};
+use sh_types::{Bytes, End, Event, Items, Name};
+use std::alloc::{AllocError, Global};
+use std::process::Abort;
+use std::test::Fail;
+use std::thread::Threads;
+
+/// The file header and two program headers (System V gABI, "ELF Header", "Program Header"), as words of 8 bytes.
+const HEAD: [u64; 22] = [
+    0x0001_0102_464c_457f,
+    0,
+    0x0000_0001_00f3_0002,
+    0x1_0000,
+    64,
+    0x108c,
+    0x0038_0040_0000_0000,
+    0x0007_0008_0040_0002,
+    0x0000_0005_0000_0001,
+    0x1000,
+    0x1_0000,
+    0x1_0000,
+    68,
+    68,
+    0x1000,
+    0x0000_0006_0000_0001,
+    0x2000,
+    0x1_1000,
+    0x1_1000,
+    0,
+    0,
+    0x1000,
+];
+
+/// `start` stores the three bytes on its stack, calls `three`, which sets a2, and makes the calls 64 and 93.
+const CODE: [u32; 17] = [
+    0xff01_0113,
+    0x0680_0293,
+    0x0051_0023,
+    0x0690_0293,
+    0x0051_00a3,
+    0x00a0_0293,
+    0x0051_0123,
+    0x0200_00ef,
+    0x0010_0513,
+    0x0001_0593,
+    0x0400_0893,
+    0x0000_0073,
+    0x0000_0513,
+    0x05d0_0893,
+    0x0000_0073,
+    0x0030_0613,
+    0x0000_8067,
+];
+
+/// The symbols `start` and `three`, behind the empty one (System V gABI, "Symbol Table").
+const SYMBOLS: [u64; 9] = [
+    0,
+    0,
+    0,
+    0x0001_0012_0000_0001,
+    0x1_0000,
+    60,
+    0x0001_0012_0000_0007,
+    0x1_003c,
+    8,
+];
+
+/// Section header 5: where the symbols stand (System V gABI, "Section Header").
+const SYMBOL_SECTION: [u64; 8] = [0x0000_0002_0000_0000, 0, 0, 0x1044, 72, 0, 8, 24];
+
+fn put(file: &mut Vec<u8>, words: &[u64]) -> Result<(), AllocError> {
+    for word in words {
+        file.extend_from_slice(&word.to_le_bytes())?;
+    }
+    Ok(())
+}
+
+/// The guest with this word in place of the one with this number.
+fn guest(alloc: Global, number: usize, other: u32) -> Result<Vec<u8>, AllocError> {
+    let mut file = Vec::new(alloc);
+    put(&mut file, &HEAD)?;
+    file.resize(0x1000, 0)?;
+    for (i, word) in CODE.iter().enumerate() {
+        let word = if i == number { other } else { *word };
+        file.extend_from_slice(&word.to_le_bytes())?;
+    }
+    put(&mut file, &SYMBOLS)?;
+    file.resize(0x108c + 5 * 64, 0)?;
+    put(&mut file, &SYMBOL_SECTION)?;
+    file.resize(0x108c + 8 * 64, 0)?;
+    Ok(file)
+}
+
+fn words_of(alloc: Global, words: &[&str]) -> Result<Vec<String>, AllocError> {
+    let mut all = Vec::new(alloc);
+    for word in words {
+        all.push(String::from_str(alloc, word)?)?;
+    }
+    Ok(all)
+}
+
+/// Files that hold these bytes as `a.elf`.
+fn files_of(rt: &impl Abort, alloc: Global, file: &[u8]) -> Result<MemFiles, AllocError> {
+    let mut names = Items::new(alloc);
+    names.push(Name::from_str(alloc, "a.elf")?)?;
+    let mut contents = Items::new(alloc);
+    contents.push(Bytes::from_slice(alloc, file)?)?;
+    assert_eq!(rt; names.len(), contents.len());
+    Ok(MemFiles::new(alloc, names, contents, Items::new(alloc)))
+}
+
+/// A sink that fails at its first write, or at none.
+fn sink_of(alloc: Global, fails: bool) -> Result<MemSink, AllocError> {
+    let mut numbers = Items::new(alloc);
+    if fails {
+        numbers.push(0)?;
+    }
+    MemSink::new(alloc, 4096, numbers).map_err(|_| AllocError)
+}
+
+/// What must come of a call: the status, and what the sinks gain, where they fail or not.
+#[derive(Clone, Copy)]
+struct Want<'a> {
+    out_fails: bool,
+    report_fails: bool,
+    status: u8,
+    out: &'a str,
+    report: &'a str,
+}
+
+fn with_status<'a>(status: u8, out: &'a str, report: &'a str) -> Want<'a> {
+    Want {
+        out_fails: false,
+        report_fails: false,
+        status,
+        out,
+        report,
+    }
+}
+
+/// Does a command over the file `a.elf`, and compares.
+fn expect<R: Threads + Sync + Abort>(
+    rt: &R,
+    alloc: Global,
+    words: &[&str],
+    file: &[u8],
+    want: Want,
+) -> Result<(), Fail> {
+    let mut files = files_of(rt, alloc, file)?;
+    let mut out = sink_of(alloc, want.out_fails)?;
+    let mut report = sink_of(alloc, want.report_fails)?;
+    let words = words_of(alloc, words)?;
+    let seed = [0; 32];
+    let done = serial_command(rt, alloc, &words, &mut files, &mut out, &mut report, &seed);
+    assert_eq!(rt; done.status, want.status);
+    assert_eq!(rt; out.content(), want.out.as_bytes());
+    assert_eq!(rt; report.content(), want.report.as_bytes());
+    Ok(())
+}
+
+const RUN: [&str; 3] = ["run", "a.elf", "--serial"];
+
+#[test]
+fn a_run_hands_out_its_machine(rt: HostRuntime) -> Result<(), Fail> {
+    let alloc = rt.alloc();
+    let mut files = files_of(&rt, alloc, &guest(alloc, 17, 0)?)?;
+    let mut out = sink_of(alloc, false)?;
+    let mut report = sink_of(alloc, false)?;
+    let words = words_of(alloc, &RUN)?;
+    let seed = [0; 32];
+    let done = shuffler_main(
+        &rt,
+        alloc,
+        &words,
+        &mut files,
+        &mut out,
+        &mut report,
+        &seed,
+        &NoGate,
+    );
+    assert_eq!(rt; done.status, 0);
+    assert_eq!(rt; done.end, Some(End::Exit { code: 0 }));
+    assert_eq!(rt; out.content(), b"hi\n".as_slice());
+    assert_eq!(rt; report.content(), b"".as_slice());
+    let events = [13, 3, 1].map(|count| Event::Run { hart: 0, count });
+    match &done.machine {
+        None => assert!(rt; false, "a run gives its machine"),
+        Some(machine) => assert_eq!(rt; machine.journal(), events.as_slice()),
+    }
+    Ok(())
+}
+
+#[test]
+fn words_that_are_no_command(rt: HostRuntime) -> Result<(), Fail> {
+    let lists: [&[&str]; 6] = [
+        &[],
+        &["run", "a.elf"],
+        &["run", "--serial", "a.elf"],
+        &["run", "a.elf", "--serial", "--serial"],
+        &["run", "", "--serial"],
+        &["run", "--a.elf", "--serial"],
+    ];
+    for words in lists {
+        expect(
+            &rt,
+            rt.alloc(),
+            words,
+            b"",
+            with_status(10, "", "shuffler: usage\n"),
+        )?;
+    }
+    Ok(())
+}
+
+#[test]
+fn files_that_are_not_run(rt: HostRuntime) -> Result<(), Fail> {
+    let refused = "shuffler: refused: not built\n";
+    for size in [0, 63, 64] {
+        let mut file = Vec::new(rt.alloc());
+        file.resize(size, 0)?;
+        expect(&rt, rt.alloc(), &RUN, &file, with_status(12, "", refused))?;
+    }
+    let missing = "shuffler: file b.elf cannot be read\n";
+    let words = ["run", "b.elf", "--serial"];
+    expect(&rt, rt.alloc(), &words, b"", with_status(11, "", missing))?;
+    let long = "shuffler: file a.elf is longer than 16777216 bytes\n";
+    let mut file = guest(rt.alloc(), 17, 0)?;
+    file.resize(16_777_217, 0)?;
+    expect(&rt, rt.alloc(), &RUN, &file, with_status(11, "", long))?;
+    file.truncate(16_777_216);
+    expect(&rt, rt.alloc(), &RUN, &file, with_status(0, "hi\n", ""))
+}
+
+/// The guest with another word: where in its code, the word, and what must come of it.
+#[test]
+fn other_guests(rt: HostRuntime) -> Result<(), Fail> {
+    let refused = "shuffler: refused: not built\n";
+    let cases = [
+        (12, 0x0070_0513, with_status(1, "hi\n", "")), // exit 7
+        (12, 0x1000_0513, with_status(0, "hi\n", "")), // exit 256, of which the low byte counts
+        (10, 0x05d0_0893, with_status(1, "", "")), // exit 1 at once
+        (10, 0x05e0_0893, with_status(12, "", refused)), // call 94
+        (14, 0x0000_0013, with_status(12, "", refused)), // no exit
+    ];
+    for (number, word, want) in cases {
+        expect(
+            &rt,
+            rt.alloc(),
+            &RUN,
+            &guest(rt.alloc(), number, word)?,
+            want,
+        )?;
+    }
+    Ok(())
+}
+
+/// A write is made also where the output is empty.
+#[test]
+fn sinks_that_fail(rt: HostRuntime) -> Result<(), Fail> {
+    let alloc = rt.alloc();
+    let silent = guest(alloc, 10, 0x05d0_0893)?;
+    let want = Want {
+        out_fails: true,
+        ..with_status(13, "", "")
+    };
+    expect(&rt, alloc, &RUN, &guest(alloc, 17, 0)?, want)?;
+    expect(&rt, alloc, &RUN, &silent, want)?;
+    let want = Want {
+        report_fails: true,
+        ..with_status(13, "", "")
+    };
+    expect(&rt, alloc, &["run"], b"", want)
+}

@@ -1,0 +1,71 @@
+//! The top call: all that the program does.
+ghost use Rattle.std.specs.Prelude.{◌≡◌};
+ghost use Rattle.shuf_cli.specs.Words.{texts, command_of};
+ghost use Rattle.shuf_cli.specs.Headline.{World, Answered};
+ghost use Rattle.shuf_cli.specs.Answers.{Answers};
+
+use crate::{Done, deliver, make_due};
+use pace_law::serial_lists_are_paced;
+use sh_base::{Files, Sink};
+use sh_types::NoMemory;
+use std::alloc::Global;
+use std::thread::Threads;
+
+const NO_MEMORY: u8 = 14;
+
+/// Makes what is due and delivers it.
+fn answer_command<F: Files, O: Sink, E: Sink>(
+    alloc: Global,
+    words: &[String],
+    files: &mut F,
+    out: &mut O,
+    report: &mut E,
+    seed: &[u8; 32],
+) -> Done
+    ensures held { F.held files.new ≡ F.held files.old }
+    ensures answer { Answers (command_of (texts words.now)) seed.now (record {
+      held = F.held files.old;
+      before = F.faults files.old;
+      now = F.faults files.new;
+      out = record { written = O.written out.old; faults = O.faults out.old };
+      out' = record { written = O.written out.new; faults = O.faults out.new };
+      report = record { written = E.written report.old; faults = E.faults report.old };
+      report' = record { written = E.written report.new; faults = E.faults report.new };
+    }) result }
+{
+    match make_due(alloc, words, files, seed) {
+        Ok(due) => deliver(due, out, report),
+        Err(NoMemory) => Done {
+            status: NO_MEMORY,
+            end: None,
+            machine: None,
+        },
+    }
+}
+
+/// Does a command: `words` are those of the command line, `seed` is that of the layouts. It loads from `files`,
+/// and writes to `out` what the guest wrote or to `report` one line. A guest is run only where it comes to an exit
+/// within 100,000 instructions and makes no other call of the environment before than write. It waits for nobody.
+pub fn serial_command<R: Threads + Sync, F: Files, O: Sink, E: Sink>(
+    _rt: &R,
+    alloc: Global,
+    words: &[String],
+    files: &mut F,
+    out: &mut O,
+    report: &mut E,
+    seed: &[u8; 32],
+) -> Done
+    ensures held { F.held files.new ≡ F.held files.old }
+    ensures answer { Answered (command_of (texts words.now)) seed.now (record {
+      held = F.held files.old;
+      before = F.faults files.old;
+      now = F.faults files.new;
+      out = record { written = O.written out.old; faults = O.faults out.old };
+      out' = record { written = O.written out.new; faults = O.faults out.new };
+      report = record { written = E.written report.old; faults = E.faults report.old };
+      report' = record { written = E.written report.new; faults = E.faults report.new };
+    }) result }
+{
+    serial_lists_are_paced();
+    answer_command(alloc, words, files, out, report, seed)
+}

@@ -1,0 +1,78 @@
+//! The words of a command line.
+ghost use Rattle.std.specs.Prelude.{◌≡◌, IfOk, IsErrOf, IsSome, None, Some};
+ghost use Rattle.shuf_cli.specs.Words.{texts, is_file_word, default_opts, command_of};
+
+use sh_types::Name;
+use std::alloc::Global;
+
+/// The options of a run. `seed` stands in place of the seed that is handed in; a publication is due every
+/// `period` instructions; a turn has at most `quantum` and the run at most `steps` instructions; `workers`
+/// threads run it, or none where it is `serial`; `input` names a file; the report is `full` or short.
+#[derive(Debug, Drop)]
+pub struct Opts {
+    pub seed: Option<[u8; 32]>,
+    pub period: u64,
+    pub quantum: u32,
+    pub steps: u64,
+    pub workers: u32,
+    pub serial: bool,
+    pub input: Option<Name>,
+    pub full: bool,
+}
+
+/// What the words ask for.
+#[derive(Debug, Drop)]
+pub enum Command {
+    Run { file: Name, opts: Opts },
+}
+
+/// Why words are no command: memory was refused, or they have no meaning.
+#[derive(Clone, Copy, Debug, PartialEq, Eq)]
+pub enum WordFault {
+    NoMemory,
+    Usage,
+}
+
+/// Whether a word can name a file: it is not empty and does not begin with two dashes.
+fn names_file(word: &str) -> bool
+    ensures { result ≡ is_file_word word.now }
+{
+    !word.is_empty() && !word.as_bytes().starts_with(b"--")
+}
+
+/// The options where the words give none.
+fn defaults() -> Opts
+    ensures { result ≡ default_opts }
+{
+    Opts {
+        seed: None,
+        period: 100_000,
+        quantum: 1_000,
+        steps: 100_000_000,
+        workers: 4,
+        serial: true,
+        input: None,
+        full: false,
+    }
+}
+
+/// Reads the words of a command line: `run FILE --serial`. All else is `Usage`.
+pub fn read_words(alloc: Global, words: &[String]) -> Result<Command, WordFault>
+    ensures usage { IsErrOf result WordFault.Usage → command_of (texts words.now) ≡ None }
+    ensures command { IfOk result (λ command. command_of (texts words.now) ≡ Some command) }
+    ensures memory { IsErrOf result WordFault.NoMemory → IsSome (command_of (texts words.now)) }
+{
+    let [verb, file, option] = words else {
+        return Err(WordFault::Usage);
+    };
+    if verb.as_str() != "run" || option.as_str() != "--serial" || !names_file(file.as_str()) {
+        return Err(WordFault::Usage);
+    }
+    match Name::from_str(alloc, file.as_str()) {
+        Ok(file) => Ok(Command::Run {
+            file,
+            opts: defaults(),
+        }),
+        Err(_) => Err(WordFault::NoMemory),
+    }
+}
