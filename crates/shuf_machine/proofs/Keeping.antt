@@ -45,4 +45,3 @@ kept_more o n k s s' s'' a b c kp can st quiet tl =
         let z : (k == 0) ≡ false = grind (arith, nat_tests) in
         ap (λ j. calls_in o n (instructions o n j s)) q ∙ ap (calls_in o n) (sym kp.state) ∙ calls_are o n s' ∙ quiet z
     by m some lt false e = let l : m < k = grind (arith, nat_tests) in kp.inner m some l
-

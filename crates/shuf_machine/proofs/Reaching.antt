@@ -85,9 +85,9 @@ module _ (c : Code) (st : State) (n : ℕ) (ic : IsCode c) (r : IsReached (setti
         there = there;
         word = word;
         meets = λ imm k. restore_meets (setting_of c.origin) ic.setting (meant st) _ n h sound e live imm
-          (ap (λ l. kind_there (literal_in (setting_of c.origin).image) l h.pc (copied (setting_of c.origin).image l h.pc)) same
-          ∙ ap (λ (i : Image). kind_there (literal_in i) c.layout h.pc (copied i c.layout h.pc)) (sym ic.image)
-          ∙ ap (kind_there (literal_in c.image) c.layout h.pc) (sym word) ∙ k);
+            (ap (λ l. kind_there (literal_in (setting_of c.origin).image) l h.pc (copied (setting_of c.origin).image l h.pc)) same
+            ∙ ap (λ (i : Image). kind_there (literal_in i) c.layout h.pc (copied i c.layout h.pc)) (sym ic.image)
+            ∙ ap (kind_there (literal_in c.image) c.layout h.pc) (sym word) ∙ k);
       }
 
 -- the hart that can run is to be run from the copy
