@@ -1,62 +1,65 @@
-ghost use Rattle.std.specs.Prelude.{false, None, []};
+ghost use Rattle.std.specs.Prelude.{Some, ◌==◌};
 
 use crate::{CallDid, Host, environment};
 use sh_types::NoMemory;
 use std::test::Fail;
 
-/// A machine in which nothing can be read and each word is a return word.
+/// A memory of zeros that is read a byte at a time and has no return word.
 #[derive(Drop)]
-struct Sealed;
+struct Zeros {
+    output: Vec<u8>,
+}
 
-impl Host for Sealed {
-    ghost can_read = { λ _ _ _. false };
+impl Host for Zeros {
+    ghost can_read = { λ _ _ n. n == 1 };
 
-    ghost plain = { λ _ _. None };
+    ghost plain = { λ _ _. Some 0 };
 
-    ghost output = { λ _. [] };
+    ghost output = { λ z. z.output.items };
 
-    fn readable(&self, _address: u64, _length: u64) -> bool {
+    fn readable(&self, _address: u64, length: u64) -> bool {
+        length == 1
+    }
+
+    #[tactic(auto, using(crate::proofs::Zeros::holds_none))]
+    fn holds_return(&self, _address: u64, _length: u64) -> bool {
         false
     }
 
-    #[tactic(auto, using(crate::proofs::Sealed::holds_none, crate::proofs::Sealed::holds_some))]
-    fn holds_return(&self, _address: u64, length: u64) -> bool {
-        if length == 0 {
-            return false;
-        }
-        true
-    }
-
+    #[tactic(auto, using(crate::proofs::Zeros::one_zero))]
     fn put_output(&mut self, _address: u64, _length: u64) -> Result<(), NoMemory> {
+        self.output.push(0)?;
         Ok(())
     }
 }
 
 #[test]
-fn answers(rt: HostRuntime) -> Result<(), Fail> {
-    let mut host = Sealed;
-    let write = [1, 0x1000, 3, 0, 0, 0, 0, 64];
+fn calls(rt: HostRuntime) -> Result<(), Fail> {
+    let mut host = Zeros {
+        output: Vec::new(rt.alloc()),
+    };
+    let answer = environment(&mut host, 0, &[1, 0x1000, 1, 0, 0, 0, 0, 64])?;
+    assert_eq!(rt; answer, CallDid::Answer { value: 1 });
+    assert_eq!(rt; host.output.as_slice(), [0].as_slice());
+    let unreadable = environment(&mut host, 0, &[2, 0x1000, 3, 0, 0, 0, 0, 64])?;
     assert_eq!(rt;
-        environment(&mut host, 0, &write)?,
+        unreadable,
         CallDid::Answer {
             value: 0xffff_ffff_ffff_fff2
         }
     );
-    let write_to_input = [0, 0x1000, 3, 0, 0, 0, 0, 64];
+    let input = environment(&mut host, 0, &[0, 0x1000, 1, 0, 0, 0, 0, 64])?;
     assert_eq!(rt;
-        environment(&mut host, 0, &write_to_input)?,
+        input,
         CallDid::Answer {
             value: 0xffff_ffff_ffff_fff7
         }
     );
-    let exit = [0x1_0203, 0, 0, 0, 0, 0, 0, 93];
+    let exit = environment(&mut host, 0, &[0x1_0203, 0, 0, 0, 0, 0, 0, 93])?;
+    assert_eq!(rt; exit, CallDid::ExitHart { code: 3 });
+    let unknown = environment(&mut host, 0, &[0, 0, 0, 0, 0, 0, 0, 63])?;
     assert_eq!(rt;
-        environment(&mut host, 0, &exit)?,
-        CallDid::ExitHart { code: 3 }
-    );
-    let other = [0, 0, 0, 0, 0, 0, 0, 63];
-    assert_eq!(rt;
-        environment(&mut host, 0, &other)?,
+        unknown,
         CallDid::Answer {
             value: 0xffff_ffff_ffff_ffda
         }
