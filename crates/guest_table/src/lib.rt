@@ -8,9 +8,7 @@ pub use plain::{Ran, run_plain};
 
 #[cfg(test)]
 mod elf;
-
 #[cfg(test)]
 mod guests;
-
 #[cfg(test)]
 mod tests;

@@ -6,12 +6,16 @@ use std::alloc::Global;
 
 /// The first byte of the stack, its size in bytes, and sp at first.
 const STACK_START: u64 = 0x3ff0_0000;
+
 const STACK_SIZE: usize = 0x10_0000;
+
 const FIRST_SP: u64 = 0x3fff_f000;
 
 /// The answers -9, -14 and -38 of Linux's EBADF, EFAULT and ENOSYS.
 const BAD_DESCRIPTOR: u64 = 0xffff_ffff_ffff_fff7;
+
 const BAD_ADDRESS: u64 = 0xffff_ffff_ffff_fff2;
+
 const NO_SUCH_CALL: u64 = 0xffff_ffff_ffff_ffda;
 
 /// What came of a run: the bytes that were written, the end, if it came, and the number of instructions.
