@@ -1,4 +1,4 @@
-//! The words of the guests, as GNU as and LLVM's assembler write them.
+//! The words of the guests, as LLVM's assembler writes them for RV64I.
 
 /// Exits with a0, which is 0 at first.
 pub const EXIT_0: [u32; 2] = [
