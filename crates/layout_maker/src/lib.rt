@@ -11,7 +11,7 @@ mod spots;
 mod tests;
 
 pub use laws::{
-    gaps_are_within_shares, keys_are_small, layouts_are_well_placed, orders_are_permutations, places_are_new,
-    recent_cells_are_counted,
+    gaps_are_within_shares, keys_are_small, layouts_are_well_placed, orders_are_permutations,
+    places_are_new, recent_cells_are_counted,
 };
 pub use make::{cell_at, make_layout};

@@ -4,13 +4,10 @@ use Rattle.sh_types.specs.declared.runs.Event.{Event}
 use Rattle.sh_types.specs.declared.runs.Event.TheVariants.{Run}
 use Rattle.sh_types.specs.Event.{instructions, can_all, state_after, IsLegalIn, written}
 use Rattle.sh_types.specs.Serial.{run_length}
-use Rattle.sh_types.specs.Shuffled.{Shuffled}
+use Rattle.sh_types.specs.Fine.{IsSetting}
+use Rattle.sh_types.specs.Shuffled.{Setting, Shuffled}
 use Rattle.sh_types.specs.Unmoved.{unmoved_run}
 use Rattle.sh_law.specs.Length.{IsWhole}
-use Rattle.sh_law.specs.Sound.{Stays}
-use Rattle.sh_law.proofs.Ciphers.{is_cipher}
-use Rattle.sh_law.proofs.Counted.{lengths}
-use Rattle.sh_law.proofs.Whole.{law}
 use Rattle.shuf_machine.specs.declared.state.Code.{Code}
 use Rattle.shuf_machine.specs.declared.state.State.{State}
 use Rattle.shuf_machine.specs.Meant.{meant, IsCode, IsMapped, IsMachine, IsRun}
@@ -32,14 +29,14 @@ pub run_between : (c : Code) (s s' : State) (j j' : List Event) (n limit k : ℕ
 run_between c s s' j j' n limit k m m' r =
     subst (λ x. IsRun (setting_of c.origin) n limit k x (state_after (setting_of c.origin) j')) m.state (subst (IsRun (setting_of c.origin) n limit k (meant s)) m'.state r)
 
--- as many instructions as the unmoved machine says
-pub length_is : (c : Code) (s : State) (s' : Shuffled) (j : List Event) (n limit k : ℕ) → IsMachine c s j → IsRun (setting_of c.origin) n limit k (meant s) s' → k ≡ run_length (image_of c.origin.file) n limit (unmoved_run (image_of c.origin.file) (written j))
-length_is c s s' j n limit k m r =
-    lengths is_cipher (setting_of c.origin) j n limit k m.code.setting m.legal (subst (IsWhole (setting_of c.origin) n limit k) m.state r.whole)
+-- how long the law says that an event is
+abbrev pub LengthLaw : Type 0
+LengthLaw = (o : Setting) (events : List Event) (n limit k : ℕ) → IsSetting o → IsLegalIn o events → IsWhole o n limit k (state_after o events) → k ≡ run_length o.image n limit (unmoved_run o.image (written events))
 
--- the machine's state stands for the unmoved one
-pub machine_stays : (c : Code) (s : State) (j : List Event) → IsMachine c s j → Stays (setting_of c.origin) (state_after (setting_of c.origin) j) (unmoved_run (image_of c.origin.file) (written j))
-machine_stays c s j m = law is_cipher (setting_of c.origin) j m.code.setting m.legal
+-- as many instructions as the unmoved machine says
+pub length_is : LengthLaw → (c : Code) (s : State) (s' : Shuffled) (j : List Event) (n limit k : ℕ) → IsMachine c s j → IsRun (setting_of c.origin) n limit k (meant s) s' → k ≡ run_length (image_of c.origin.file) n limit (unmoved_run (image_of c.origin.file) (written j))
+length_is law c s s' j n limit k m r =
+    law (setting_of c.origin) j n limit k m.code.setting m.legal (subst (IsWhole (setting_of c.origin) n limit k) m.state r.whole)
 
 pub machine_opens : (c : Code) (s : State) (j : List Event) → IsCode c → IsMapped c.image s.memory → meant s ≡ first_state c.origin → j ≡ [] → IsMachine c s j
 unfolding IsLegalIn state_after

@@ -1,16 +1,14 @@
 -- The setting that an origin gives.
-use Rattle.std.proofs.Common.{◌≡◌, ℕ, List, length, Some, refl, sym, ap, ◌∙◌, subst, arith}
+use Rattle.std.proofs.Common.{◌≡◌, ℕ, ◌<◌, ◌^◌, List, slice_index, length, Some, refl, sym, ap, ◌∙◌, subst, arith}
 use Rattle.sh_types.specs.declared.code.Image.{Image}
 use Rattle.sh_types.specs.declared.layouts.Layout.{Layout}
 use Rattle.sh_types.specs.Fine.{IsFine, IsSetting}
 use Rattle.sh_types.specs.Image.{sizes_of}
-use Rattle.sh_types.specs.Place.{IsPair, pair}
+use Rattle.sh_types.specs.Place.{IsPair, WellPlaced, pair}
 use Rattle.sh_types.specs.Runnable.{IsRunnable}
 use Rattle.sh_types.specs.Sized.{IsSized}
 use Rattle.sh_types.specs.Thin.{thin_image}
 use Rattle.layout_maker.specs.Layout.{layout_of}
-use Rattle.layout_maker.proofs.Keying.{keys_small}
-use Rattle.layout_maker.proofs.Placed.{layout_placed, layout_sizes}
 use Rattle.shuf_machine.specs.declared.answers.Origin.{Origin}
 use Rattle.shuf_machine.specs.declared.state.Code.{Code}
 use Rattle.shuf_machine.specs.Meant.{IsCode}
@@ -22,15 +20,26 @@ pub image_is : (file : List ℕ) (image : Image) → thin_image file ≡ Some im
 unfolding image_of
 image_is file image e = sym (ap image_or_none e)
 
-pub setting_is : (o : Origin) (image : Image) → thin_image o.file ≡ Some image → IsFine image → IsRunnable image → IsSetting (setting_of o)
-setting_is o image e fine runs =
+layout_sizes : (sizes seed : List ℕ) (k : ℕ) → (layout_of sizes seed k).sizes ≡ sizes
+unfolding layout_of
+layout_sizes sizes seed k = refl
+
+-- what the calls of the layout maker say of all its layouts
+abbrev pub PlacedLaw : Type 0
+PlacedLaw = (sizes seed : List ℕ) (k : ℕ) → IsSized sizes → WellPlaced (layout_of sizes seed k)
+
+abbrev pub KeysLaw : Type 0
+KeysLaw = (sizes seed : List ℕ) (k n : ℕ) → slice_index (layout_of sizes seed k).keys n < 2 ^ 64
+
+pub setting_is : PlacedLaw → KeysLaw → (o : Origin) (image : Image) → thin_image o.file ≡ Some image → IsFine image → IsRunnable image → IsSetting (setting_of o)
+setting_is placed keys o image e fine runs =
     let i = image_is o.file image e in
     let sized : IsSized (sizes_of (image_of o.file)) = subst (λ i. IsSized (sizes_of i)) i runs.sized in
     record {
       image = subst IsFine i fine;
-      placed = λ k. layout_placed (sizes_of (image_of o.file)) o.seed k sized;
+      placed = λ k. placed (sizes_of (image_of o.file)) o.seed k sized;
       sizes = λ k. layout_sizes (sizes_of (image_of o.file)) o.seed k;
-      keys = λ k n. keys_small (sizes_of (image_of o.file)) o.seed k n;
+      keys = λ k n. keys (sizes_of (image_of o.file)) o.seed k n;
     }
 
 -- the layout that was made is the first of the setting

@@ -12,10 +12,15 @@ use Rattle.sh_types.specs.Event.{instructions, goes_still, is_live, can_run, can
 use Rattle.sh_types.specs.Fetch.{Tells}
 use Rattle.sh_types.specs.Need.{Outcome, Goes, Puts, Calls, Quits, Traps, Leaks}
 use Rattle.sh_types.specs.Shuffled.{Setting, Owned, Shuffled, after_call, hart_call, after, moved_of, on_hart, shuffled_step, shuffled_start}
-use Rattle.sh_law.proofs.Lists.{and_first, and_second}
 use Rattle.shuf_machine.specs.Meant.{asked_by, asked_of}
 
 -- ---- what can_run says
+
+and_first : (a b : Bool) → (a && b) ≡ true → a ≡ true
+and_first a b e = grind arith
+
+and_second : (a b : Bool) → (a && b) ≡ true → b ≡ true
+and_second a b e = grind arith
 
 still : (e : Option End) → goes_still e ≡ true → e ≡ None
 still None h = refl

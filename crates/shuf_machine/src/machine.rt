@@ -19,7 +19,7 @@ use crate::answers::{MachineNo, No, Origin};
 use crate::making::{make_code, opening_state};
 use crate::running::run_hart;
 use crate::state::{Code, State, can_go};
-use sh_law::{instructions_are_counted, states_stand};
+use sh_law::{instructions_are_counted, runs_have_their_length, states_stand};
 use sh_types::{End, Event, Fetch, Hart, Image, Layout, NoMemory};
 use std::alloc::Global;
 use std::marker::Model;
@@ -219,6 +219,7 @@ fn run_parts<F: Fetch>(
     if journal.reserve(1).is_err() {
         return Err(MachineNo::NoMemory);
     }
+    runs_have_their_length();
     match run_hart(code, state, hart, limit, fetch) {
         Ok(count) => {
             journal.push_reserved(Event::Run { hart, count });

@@ -13,7 +13,9 @@ use crate::answers::Origin;
 use crate::state::{Code, State};
 use code_copier::copy;
 use guest_mem::GuestMem;
-use layout_maker::make_layout;
+use layout_maker::{
+    keys_are_small, layouts_are_well_placed, make_layout, recent_cells_are_counted,
+};
 use sh_types::{Hart, Image, NoMemory, Pair, place};
 use std::alloc::{AllocError, Global};
 
@@ -28,6 +30,9 @@ pub fn make_code(alloc: Global, image: Image, origin: Origin) -> Result<Code, No
     ensures code { IfOk result (λ c. IsCode c) }
     ensures origin { IfOk result (λ c. c.origin ≡ origin) }
 {
+    layouts_are_well_placed();
+    keys_are_small();
+    recent_cells_are_counted();
     let sizes = sizes(alloc, &image)?;
     let layout = make_layout(alloc, &sizes, &origin.seed, 1, &[])?;
     let copy = copy(alloc, &image, &layout)?;

@@ -13,6 +13,10 @@ use crate::calls::call;
 use crate::finishing::{leak, quit, trap};
 use crate::state::{Code, State, can_go, count_one};
 use hart_step::{Did, step};
+use sh_law::{
+    harts_are_placed, instructions_are_counted, no_live_hart_on_an_erased_layout,
+    restores_meet_their_own,
+};
 use sh_types::{Fetch, NoMemory};
 
 /// What the next instruction of a hart does to the hart and the memory.
@@ -102,6 +106,10 @@ pub fn run_hart<F: Fetch>(
     ensures mapped { IsMapped code.now.image state.new.memory }
     ensures asked { IfOk result (λ n. Tells (F.asked fetch.old) (asked_in (setting_of code.now.origin) at limit n (meant state.old)) (F.asked fetch.new)) }
 {
+    instructions_are_counted();
+    harts_are_placed();
+    no_live_hart_on_an_erased_layout();
+    restores_meet_their_own();
     let mut done: u64 = 0;
     while going(state, at, done, limit) {
         if !advance(code, state, at, done == 0, fetch)? {

@@ -11,7 +11,7 @@ returns-in-Ok-clause-kept g c =
 
 pub returns-in-Ok-clause-length : goal.returns-in-Ok-clause-length
 returns-in-Ok-clause-length g c =
-    length_is c.args.code.now c.args.state.now (meant c.run_hart.new.state) c.args.journal.now.items c.args.hart c.args.limit c.in-Ok.count c.requires.is c.in-Ok.ensures.run
+    length_is c.runs_have_their_length.ensures c.args.code.now c.args.state.now (meant c.run_hart.new.state) c.args.journal.now.items c.args.hart c.args.limit c.in-Ok.count c.requires.is c.in-Ok.ensures.run
 
 pub returns-in-Ok-clause-run : goal.returns-in-Ok-clause-run
 returns-in-Ok-clause-run g c =

@@ -4,13 +4,21 @@ use Rattle.sh_types.specs.Shuffled.{Shuffled}
 use Rattle.shuf_machine.specs.Meant.{meant}
 use Rattle.shuf_machine.specs.Run.{setting_of}
 use Rattle.shuf_machine.proofs.Keeping.{kept_more}
+use Rattle.shuf_machine.proofs.Laws.{Laws}
 use Rattle.shuf_machine.proofs.Reaching.{next_is_here}
 use Rattle.shuf_machine.proofs.Steps.{run_count}
 use Rattle.shuf_machine.proofs.running.run_hart.Goals as goal
 
 pub advance-requires-clause-next : goal.advance-requires-clause-next
 advance-requires-clause-next g c =
-    next_is_here c.args.code.now c.loop-state.state c.args.at c.requires.code c.loop-state.invariant.reached (c.going.ensures.can c.loop-state-test.true)
+    let laws : Laws = record {
+      few = c.instructions_are_counted.ensures.few;
+      number = c.harts_are_placed.ensures.number;
+      place = c.harts_are_placed.ensures.place;
+      on = c.no_live_hart_on_an_erased_layout.ensures;
+      meets = c.restores_meet_their_own.ensures;
+    } in
+    next_is_here laws c.args.code.now c.loop-state.state c.args.at c.requires.code c.loop-state.invariant.reached (c.going.ensures.can c.loop-state-test.true)
 
 pub advance-requires-clause-count : goal.advance-requires-clause-count
 advance-requires-clause-count g c =
