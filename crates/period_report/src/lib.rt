@@ -1,0 +1,9 @@
+//! The report on a run: what it was made from, which layouts came and went, and how it ended.
+#![tactic(auto)]
+
+mod cells;
+mod lines;
+mod sizes;
+mod writer;
+
+pub use writer::{Form, report};
