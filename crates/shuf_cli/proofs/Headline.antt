@@ -18,7 +18,7 @@ use Rattle.shuf_cli.specs.declared.due.Due.{Due}
 use Rattle.shuf_cli.specs.declared.due.Done.{Done}
 use Rattle.shuf_cli.specs.Answer.{Delivered, Refused, SinkState}
 use Rattle.shuf_cli.specs.Answers.{Answers}
-use Rattle.shuf_cli.specs.Due.{line_due, exit_due, exit_status, past_of, schedule, file_limit, usage_line, unreadable_line, too_long_line, refused_line}
+use Rattle.shuf_cli.specs.Due.{line_due, exit_due, exit_status, past_of, schedule, file_limit, usage_line, unreadable_line, too_long_line, refused_line, report_of}
 use Rattle.shuf_cli.specs.Headline.{World, IsRunOf, Holds, HoldsLong, Lacks, LoadRose, IsReadable, WroteLine, IsNotBuilt, IsRun, Answered}
 use Rattle.shuf_cli.proofs.Making.{image_is}
 use Rattle.shuf_cli.proofs.Loaded.{whole_file, long_file, loaded_same, lacks_none}
@@ -81,7 +81,7 @@ module _ (command : Option Command) (seed : List ℕ) (w : World) (done : Done) 
   record ExitTaken (m : Past) (code : ℕ) : Type 0 where
     is : done.status ≡ exit_status code
     output : Gains w.out.written w.out'.written (guest_of m).output
-    report : w.report' ≡ w.report
+    report : Gains w.report.written w.report'.written (report_of m)
     end : done.end ≡ Some (Exit code)
     machine : done.machine ≡ Some m
 

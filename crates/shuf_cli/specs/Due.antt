@@ -11,6 +11,8 @@ use Rattle.shuf_machine.specs.declared.answers.Origin.{Origin}
 use Rattle.shuf_machine.specs.Past.{Past, guest_of}
 use Rattle.shuf_machine.specs.Run.{image_of}
 use Rattle.hart_runner.specs.Built.{is_built}
+use Rattle.period_report.specs.declared.writer.Form.TheVariants.{Short}
+use Rattle.period_report.specs.Text.{report_text}
 use Rattle.shuf_cli.specs.declared.words.Command.{Command}
 use Rattle.shuf_cli.specs.declared.words.Command.TheVariants.{Run}
 use Rattle.shuf_cli.specs.declared.due.Due.{Due}
@@ -39,9 +41,13 @@ line_due status line = record { out = None; report = Some line; status = status;
 abbrev pub exit_status : ℕ → ℕ
 exit_status code = if nat_lt 0 code then 1 else 0
 
--- a run that ended with an exit: all that the unmoved machine wrote
+-- the short report on a run
+abbrev pub report_of : Past → List ℕ
+report_of m = report_text Short m.origin 100000 m.journal
+
+-- a run that ended with an exit: all that the unmoved machine wrote, and the report
 abbrev pub exit_due : Past → ℕ → Due
-exit_due m code = record { out = Some (guest_of m).output; report = None; status = exit_status code; end = Some (Exit code); machine = Some m }
+exit_due m code = record { out = Some (guest_of m).output; report = Some (report_of m); status = exit_status code; end = Some (Exit code); machine = Some m }
 
 -- where a run of the file comes from: its input is empty
 abbrev pub origin_of : List ℕ → List ℕ → Origin

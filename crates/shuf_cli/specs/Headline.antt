@@ -20,7 +20,7 @@ use Rattle.shuf_cli.specs.declared.words.Opts.{Opts}
 use Rattle.shuf_cli.specs.declared.due.Due.{Due}
 use Rattle.shuf_cli.specs.declared.due.Done.{Done}
 use Rattle.shuf_cli.specs.Answer.{SinkState, CutShort}
-use Rattle.shuf_cli.specs.Due.{IsDue, usage_line, unreadable_line, too_long_line, refused_line, past_of, exit_status, file_limit}
+use Rattle.shuf_cli.specs.Due.{IsDue, usage_line, unreadable_line, too_long_line, refused_line, past_of, exit_status, file_limit, report_of}
 
 -- what a call met and left outside: what is held, the faults of files, and the two sinks
 pub record World : Type 0 where
@@ -72,7 +72,7 @@ abbrev pub IsExitStatus : Option End → ℕ → Type 0
 IsExitStatus end status = (code : ℕ) × (end ≡ Some (Exit code)) × (status ≡ exit_status code)
 
 -- this machine ran the file, in the serial order, to the exit to which the unmoved machine comes; out gained what that
--- one writes, and report stands
+-- one writes, and report the short report on the run
 pub record IsRun (world : World) (seed file : List ℕ) (m : Past) (done : Done) : Type 0 where
   pub thin : IsSomeAnd (thin_image file) (λ image. image ≡ image_of file)
   pub built : is_built 100000 (image_of file) ≡ true
@@ -81,7 +81,7 @@ pub record IsRun (world : World) (seed file : List ℕ) (m : Past) (done : Done)
   pub end : done.end ≡ (guest_of m).end
   pub status : IsExitStatus (guest_of m).end done.status
   pub output : Gains world.out.written world.out'.written (guest_of m).output
-  pub report : world.report' ≡ world.report
+  pub report : Gains world.report.written world.report'.written (report_of m)
   -- a publication every 100,000 instructions, and 100,000,000 instructions at most
   pub paced : IsPaced (image_of file) 100000 m.journal
   pub few : (pace_after (image_of file) m.journal).count ≤ 100000000

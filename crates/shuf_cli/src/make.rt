@@ -9,6 +9,7 @@ ghost use Rattle.shuf_cli.specs.Due.{usage_line, unreadable_line, too_long_line,
 
 use crate::{Command, Due, WordFault, read_words};
 use hart_runner::{Plan, run_built};
+use period_report::{Form, report};
 use sh_base::{FileFault, Files};
 use sh_types::{Bytes, End, Image, NoMemory};
 use shuf_machine::{Machine, Origin};
@@ -85,14 +86,15 @@ fn code_of(end: Option<End>) -> u8
     }
 }
 
-/// A run that ended with this code: all that the guest wrote is due.
+/// A run that ended with this code: all that the guest wrote is due, and the report.
 fn exited(alloc: Global, machine: Machine, code: u8) -> Result<Due, NoMemory>
     ensures { IfOk result (λ due. due ≡ exit_due machine code) }
 {
     let written = Bytes::from_slice(alloc, machine.output())?;
+    let told = report(alloc, &machine, PERIOD, Form::Short)?;
     Ok(Due {
         out: Some(written),
-        report: None,
+        report: Some(told),
         status: if code == 0 { 0 } else { 1 },
         end: Some(End::Exit { code }),
         machine: Some(machine),

@@ -128,7 +128,17 @@ struct Want<'a> {
     status: u8,
     out: &'a str,
     report: &'a str,
+    ran: Option<(u64, u8)>,
 }
+
+/// The report under the seed of zeros, up to what the run came to.
+const HEAD_LINES: &str = "shuffler 1
+seed 0000000000000000000000000000000000000000000000000000000000000000
+period 100000
+image functions 2 rows 0 code 68
+layout 1 at 0 cell 118
+harts 1
+";
 
 fn with_status<'a>(status: u8, out: &'a str, report: &'a str) -> Want<'a> {
     Want {
@@ -137,6 +147,24 @@ fn with_status<'a>(status: u8, out: &'a str, report: &'a str) -> Want<'a> {
         status,
         out,
         report,
+        ran: None,
+    }
+}
+
+/// A run of so many instructions that exits with this code.
+fn exits<'a>(out: &'a str, count: u64, code: u8) -> Want<'a> {
+    Want {
+        ran: Some((count, code)),
+        ..with_status(if code == 0 { 0 } else { 1 }, out, "")
+    }
+}
+
+fn report_wanted(alloc: Global, want: Want) -> Result<String, AllocError> {
+    match want.ran {
+        None => String::from_str(alloc, want.report),
+        Some((count, code)) => {
+            format!(in alloc; "{HEAD_LINES}instructions {count}\nend exit {code}\n")
+        }
     }
 }
 
@@ -156,7 +184,8 @@ fn expect<R: Threads + Sync + Abort>(
     let done = serial_command(rt, alloc, &words, &mut files, &mut out, &mut report, &seed);
     assert_eq!(rt; done.status, want.status);
     assert_eq!(rt; out.content(), want.out.as_bytes());
-    assert_eq!(rt; report.content(), want.report.as_bytes());
+    let told = report_wanted(alloc, want)?;
+    assert_eq!(rt; report.content(), told.as_bytes());
     Ok(())
 }
 
@@ -183,7 +212,8 @@ fn a_run_hands_out_its_machine(rt: HostRuntime) -> Result<(), Fail> {
     assert_eq!(rt; done.status, 0);
     assert_eq!(rt; done.end, Some(End::Exit { code: 0 }));
     assert_eq!(rt; out.content(), b"hi\n".as_slice());
-    assert_eq!(rt; report.content(), b"".as_slice());
+    let told = report_wanted(alloc, exits("hi\n", 17, 0))?;
+    assert_eq!(rt; report.content(), told.as_bytes());
     let events = [13, 3, 1].map(|count| Event::Run { hart: 0, count });
     match &done.machine {
         None => assert!(rt; false, "a run gives its machine"),
@@ -230,7 +260,7 @@ fn files_that_are_not_run(rt: HostRuntime) -> Result<(), Fail> {
     file.resize(16_777_217, 0)?;
     expect(&rt, rt.alloc(), &RUN, &file, with_status(11, "", long))?;
     file.truncate(16_777_216);
-    expect(&rt, rt.alloc(), &RUN, &file, with_status(0, "hi\n", ""))
+    expect(&rt, rt.alloc(), &RUN, &file, exits("hi\n", 17, 0))
 }
 
 /// The guest with another word: where in its code, the word, and what must come of it.
@@ -238,9 +268,9 @@ fn files_that_are_not_run(rt: HostRuntime) -> Result<(), Fail> {
 fn other_guests(rt: HostRuntime) -> Result<(), Fail> {
     let refused = "shuffler: refused: not built\n";
     let cases = [
-        (12, 0x0070_0513, with_status(1, "hi\n", "")), // exit 7
-        (12, 0x1000_0513, with_status(0, "hi\n", "")), // exit 256, of which the low byte counts
-        (10, 0x05d0_0893, with_status(1, "", "")), // exit 1 at once
+        (12, 0x0070_0513, exits("hi\n", 17, 7)), // exit 7
+        (12, 0x1000_0513, exits("hi\n", 17, 0)), // exit 256, of which the low byte counts
+        (10, 0x05d0_0893, exits("", 14, 1)), // exit 1 at once
         (10, 0x05e0_0893, with_status(12, "", refused)), // call 94
         (14, 0x0000_0013, with_status(12, "", refused)), // no exit
     ];
@@ -271,5 +301,15 @@ fn sinks_that_fail(rt: HostRuntime) -> Result<(), Fail> {
         report_fails: true,
         ..with_status(13, "", "")
     };
-    expect(&rt, alloc, &["run"], b"", want)
+    expect(&rt, alloc, &["run"], b"", want)?;
+    expect(
+        &rt,
+        alloc,
+        &RUN,
+        &guest(alloc, 17, 0)?,
+        Want {
+            out: "hi\n",
+            ..want
+        },
+    )
 }

@@ -44,7 +44,7 @@ fn answer_command<F: Files, O: Sink, E: Sink>(
 }
 
 /// Does a command: `words` are those of the command line, `seed` is that of the layouts. It loads from `files`,
-/// and writes to `out` what the guest wrote or to `report` one line. A guest is run only where it comes to an exit
+/// and writes to `out` what the guest wrote and to `report` the report on the run, or to `report` alone one line. A guest is run only where it comes to an exit
 /// within 100,000 instructions and makes no other call of the environment before than write. It waits for nobody.
 pub fn serial_command<R: Threads + Sync, F: Files, O: Sink, E: Sink>(
     _rt: &R,
