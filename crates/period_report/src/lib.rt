@@ -4,6 +4,8 @@
 mod cells;
 mod lines;
 mod sizes;
+#[cfg(test)]
+mod tests;
 mod writer;
 
 pub use writer::{Form, report};

@@ -54,7 +54,7 @@ fn next_count(count: u64, of: Event) -> u64
 
 /// The text of all the events.
 #[tactic(auto, using(crate::proofs::Counting::counted_small))]
-fn events(
+pub fn events(
     alloc: Global,
     seed: &[u8; 32],
     of: &[Event],

@@ -1,4 +1,4 @@
-use Rattle.std.proofs.Common.{sym, ◌∙◌, subst}
+use Rattle.std.proofs.Common.{sym, subst}
 use Rattle.period_report.specs.Numbered.{IsNumbered}
 use Rattle.period_report.proofs.Numbering.{journal_numbered}
 use Rattle.period_report.proofs.writer.layouts.Goals as goal
