@@ -9,6 +9,8 @@ pub use plain::{Ran, run_plain};
 #[cfg(test)]
 mod elf;
 #[cfg(test)]
+mod first;
+#[cfg(test)]
 mod guests;
 #[cfg(test)]
 mod tests;
