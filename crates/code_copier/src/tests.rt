@@ -25,14 +25,14 @@ fn two<T: Drop>(alloc: Global, first: T, second: T) -> Result<Items<T>, NoMemory
     Ok(Items::from_vec(both))
 }
 
-fn function(alloc: Global, home: u64, size: u32) -> Function
-    ensures { result ≡ record { home = home; size = size; name = [] } }
+fn function(alloc: Global, home: u64, size: u32) -> Result<Function, NoMemory>
+    ensures { IfOk result (λ f. f ≡ record { home = home; size = size; name = [] }) }
 {
-    Function {
+    Ok(Function {
         home,
         size,
-        name: SymbolName::empty(alloc),
-    }
+        name: SymbolName::from_slice(alloc, &[])?,
+    })
 }
 
 #[tactic(auto, unfolding(crate::specs::Guest::guest))]
@@ -124,8 +124,8 @@ fn guest(alloc: Global) -> Result<Image, NoMemory>
     Ok(Image {
         functions: two(
             alloc,
-            function(alloc, 0x10000, 60),
-            function(alloc, 0x1003c, 8),
+            function(alloc, 0x10000, 60)?,
+            function(alloc, 0x1003c, 8)?,
         )?,
         entry: 0,
         words: words(alloc)?,

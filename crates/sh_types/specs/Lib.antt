@@ -1,9 +1,12 @@
+pub mod Accepted
 pub mod Arithmetic
 pub mod Chain
 pub mod Cipher
+pub mod Coded
 pub mod Copy
 pub mod Decoding
 pub mod Elf
+pub mod ElfRules
 pub mod Environment
 pub mod Event
 pub mod Fetch
@@ -24,6 +27,7 @@ pub mod Runnable
 pub mod Serial
 pub mod Shuffled
 pub mod Sized
+pub mod Splitting
 pub mod StandsFor
 pub mod Thin
 pub mod Unmoved

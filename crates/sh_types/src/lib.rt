@@ -10,17 +10,19 @@ mod items;
 mod laws;
 mod layouts;
 mod names;
+mod refusals;
 mod runs;
 
 pub use bytes::Bytes;
 pub use code::{
-    CodeRef, FrameState, FrameTable, Function, Image, Pair, RaPlace, Region, Rule, Site,
+    CodeRef, FrameState, FrameTable, Function, Image, Pair, RaPlace, Region, Rule, Site, Start,
 };
-pub use elf::{Head, Program, RawSymbol, Segment};
+pub use elf::{Elf, Head, Program, RawSymbol, Section, Segment, Span, Symbol};
 pub use fetching::{CopyFetch, Fetch, FetchLog, Fetched};
 pub use instructions::{Instr, Op, Reservation, XInstr};
 pub use items::Items;
 pub use laws::places_are_inverse;
 pub use layouts::{CodeCopy, Layout, place, whose};
-pub use names::{Name, SymbolName};
+pub use names::{Name, StringTable, SymbolName};
+pub use refusals::{ElfFault, ElfRule, LimitKind, LoadFault, SplitFault, SplitRule};
 pub use runs::{End, Event, Hart, NoMemory, Stored, Trap};

@@ -1,0 +1,2 @@
+//! The headers and tables of ELF-64 files.
+#![tactic(auto)]

@@ -1,0 +1,2 @@
+//! The symbols of ELF-64 files, with their names.
+#![tactic(auto)]

@@ -1,0 +1,2 @@
+//! Functions from symbols, sections and the entry.
+#![tactic(auto)]

@@ -1,0 +1,2 @@
+//! The image of an accepted file.
+#![tactic(auto)]
