@@ -2,7 +2,7 @@
 ghost use Rattle.std.specs.Prelude.{◌≡◌, ◌<◌, ◌≤◌, ℕ, IfOk, All, false, filter, length, slice_index_or};
 ghost use Rattle.std.specs.List.Sorted.{IsNonDecreasingBy};
 ghost use Rattle.std.specs.List.{list_any};
-ghost use Rattle.sh_types.specs.ElfRules as part;
+ghost use Rattle.sh_types.specs.ElfRules as elf_rules;
 ghost use Rattle.sh_types.specs.declared.elf.Segment.{Segment};
 ghost use Rattle.elf_read.specs.Order.{Apart, IsOrder};
 
@@ -10,20 +10,18 @@ use sh_types::{Head, Segment};
 use std::alloc::{AllocError, Global};
 
 fn with_memory(alloc: Global, segments: &[Segment]) -> Result<Vec<Segment>, AllocError>
-    ensures { IfOk result (λ found. found.items ≡ filter part.has_memory segments.now) }
+    ensures { IfOk result (λ found. found.items ≡ filter elf_rules.has_memory segments.now) }
 {
-    let mut found = Vec::new(alloc);
-    for segment in segments {
-        if segment.size > 0 {
-            found.push(*segment)?;
-        }
-    }
-    Ok(found)
+    segments
+        .iter()
+        .filter(|segment| segment.size > 0)
+        .copied()
+        .collect(alloc)
 }
 
 /// The segments with memory, by rising starts.
 pub fn in_order(alloc: Global, segments: &[Segment]) -> Result<Vec<Segment>, AllocError>
-    requires apart { part.any_share (part.filled segments.now) ≡ false }
+    requires apart { elf_rules.any_share (elf_rules.filled segments.now) ≡ false }
     requires fine { All (λ (g : Segment). g.file_size ≤ g.size) segments.now }
     ensures { IfOk result (λ found. IsOrder segments.now found.items) }
 {
@@ -45,7 +43,7 @@ fn behind(order: &[Segment], start: u64) -> usize
 /// Whether the section lies in the bytes of the segment, and in the file where the segment puts them.
 #[tactic(auto, unfolding(sh_types::specs::ElfRules::holds))]
 fn holds(head: &Head, segment: &Segment) -> bool
-    ensures { result ≡ part.holds head.now segment.now }
+    ensures { result ≡ elf_rules.holds head.now segment.now }
 {
     let end = u128::from(head.start) + u128::from(head.size);
     let bytes_end = u128::from(segment.start) + u128::from(segment.file_size);
@@ -59,7 +57,7 @@ pub fn is_held(order: &[Segment], head: &Head) -> bool
     requires rise { IsNonDecreasingBy (λ (g : Segment). g.start) order.now }
     requires apart { Apart order.now }
     requires some { 0 < head.now.size }
-    ensures { result ≡ list_any (part.holds head.now) order.now }
+    ensures { result ≡ list_any (elf_rules.holds head.now) order.now }
 {
     let after = behind(order, head.start);
     if after == 0 {

@@ -2,7 +2,7 @@
 ghost use Rattle.std.specs.Prelude.{◌≡◌, ◌<◌, ◌≤◌, IfOk, All, false};
 ghost use Rattle.std.specs.List.Sorted.{IsNonDecreasingBy};
 ghost use Rattle.std.specs.List.{list_any};
-ghost use Rattle.sh_types.specs.ElfRules as part;
+ghost use Rattle.sh_types.specs.ElfRules as elf_rules;
 ghost use Rattle.sh_types.specs.declared.elf.Head.{Head};
 ghost use Rattle.sh_types.specs.declared.elf.Segment.{Segment};
 ghost use Rattle.elf_read.specs.Order.{Apart};
@@ -28,14 +28,14 @@ const HIGHEST_END: u128 = 0x3f00_0000;
 
 /// Whether one of the headers is PT_DYNAMIC or PT_INTERP.
 pub fn any_dynamic(programs: &[Program]) -> bool
-    ensures { result ≡ list_any part.is_dynamic programs.now }
+    ensures { result ≡ list_any elf_rules.is_dynamic programs.now }
 {
     programs.iter().any(|program| program.kind == PT_DYNAMIC || program.kind == PT_INTERP)
 }
 
 #[tactic(auto, unfolding(sh_types::specs::ElfRules::bad_segment))]
 fn bad_segment(bytes: &[u8], segment: &Segment) -> bool
-    ensures { result ≡ part.bad_segment bytes.now segment.now }
+    ensures { result ≡ elf_rules.bad_segment bytes.now segment.now }
 {
     segment.file_size > segment.size
         || !lies_in(bytes, segment.file_at, segment.file_size)
@@ -44,7 +44,7 @@ fn bad_segment(bytes: &[u8], segment: &Segment) -> bool
 }
 
 fn any_bad(bytes: &[u8], segments: &[Segment]) -> bool
-    ensures { result ≡ list_any (part.bad_segment bytes.now) segments.now }
+    ensures { result ≡ list_any (elf_rules.bad_segment bytes.now) segments.now }
 {
     segments.iter().any(|segment| bad_segment(bytes, segment))
 }
@@ -52,9 +52,9 @@ fn any_bad(bytes: &[u8], segments: &[Segment]) -> bool
 /// Whether a segment breaks the rules on one by itself, or two share a byte of memory.
 #[tactic(auto, using(crate::proofs::Holding::none_bad))]
 pub fn bad_segments(alloc: Global, bytes: &[u8], segments: &[Segment]) -> Result<bool, AllocError>
-    ensures bad { IfOk result (λ yes. yes ≡ part.bad_segments bytes.now segments.now) }
-    ensures apart { IfOk result (λ yes. yes ≡ false → part.any_share (part.filled segments.now) ≡ false) }
-    ensures fine { IfOk result (λ yes. yes ≡ false → All (λ (g : Segment). g.file_size ≤ g.size) segments.now) }
+    ensures bad { IfOk result (λ bad. bad ≡ elf_rules.bad_segments bytes.now segments.now) }
+    ensures apart { IfOk result (λ bad. bad ≡ false → elf_rules.any_share (elf_rules.filled segments.now) ≡ false) }
+    ensures fine { IfOk result (λ bad. bad ≡ false → All (λ (g : Segment). g.file_size ≤ g.size) segments.now) }
 {
     if any_bad(bytes, segments) {
         return Ok(true);
@@ -68,7 +68,7 @@ fn bad_code(order: &[Segment], head: &Head) -> bool
     requires rise { IsNonDecreasingBy (λ (g : Segment). g.start) order.now }
     requires apart { Apart order.now }
     requires some { 0 < head.now.size }
-    ensures { result ≡ part.bad_code order.now head.now }
+    ensures { result ≡ elf_rules.bad_code order.now head.now }
 {
     head.kind != SHT_PROGBITS || head.start % 4 != 0 || head.size % 4 != 0 || !is_held(order, head)
 }
@@ -77,7 +77,7 @@ fn any_bad_code(order: &[Segment], codes: &[Head]) -> bool
     requires rise { IsNonDecreasingBy (λ (g : Segment). g.start) order.now }
     requires apart { Apart order.now }
     requires some { All (λ (h : Head). 0 < h.size) codes.now }
-    ensures { result ≡ list_any (part.bad_code order.now) codes.now }
+    ensures { result ≡ list_any (elf_rules.bad_code order.now) codes.now }
 {
     for head in codes {
         if bad_code(order, head) {
@@ -91,9 +91,9 @@ fn any_bad_code(order: &[Segment], codes: &[Head]) -> bool
 #[tactic(auto, using(crate::proofs::Holding::same_codes))]
 pub fn bad_codes(alloc: Global, segments: &[Segment], codes: &[Head]) -> Result<bool, AllocError>
     requires some { All (λ (h : Head). 0 < h.size) codes.now }
-    requires apart { part.any_share (part.filled segments.now) ≡ false }
+    requires apart { elf_rules.any_share (elf_rules.filled segments.now) ≡ false }
     requires fine { All (λ (g : Segment). g.file_size ≤ g.size) segments.now }
-    ensures { IfOk result (λ yes. yes ≡ part.bad_codes segments.now codes.now) }
+    ensures { IfOk result (λ bad. bad ≡ elf_rules.bad_codes segments.now codes.now) }
 {
     let order = in_order(alloc, segments)?;
     if any_bad_code(&order, codes) {

@@ -1,6 +1,6 @@
 //! Whether two of many spans have a byte in common.
 ghost use Rattle.std.specs.Prelude.{◌≡◌, ◌<◌, All, IfOk};
-ghost use Rattle.sh_types.specs.ElfRules as part;
+ghost use Rattle.sh_types.specs.ElfRules as elf_rules;
 ghost use Rattle.sh_types.specs.declared.elf.Span.{Span};
 ghost use Rattle.elf_read.specs.Clash.{clash};
 
@@ -24,7 +24,7 @@ fn collides(spans: &[Span]) -> bool
 /// Whether two of the spans have a byte in common. They are sorted, so that one pass tells it.
 pub fn any_share(mut spans: Vec<Span>) -> Result<bool, AllocError>
     requires { All (λ (s : Span). 0 < s.size) spans.items }
-    ensures { IfOk result (λ yes. yes ≡ part.any_share spans.items) }
+    ensures { IfOk result (λ shared. shared ≡ elf_rules.any_share spans.items) }
 {
     spans.sort_by_key(|span| span.start)?;
     Ok(collides(&spans))

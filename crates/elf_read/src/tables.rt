@@ -2,12 +2,12 @@
 ghost use Rattle.std.specs.Prelude.{◌≡◌, ◌<◌, map, filter, IfOk, All};
 ghost use Rattle.sh_types.specs.Elf as elf;
 ghost use Rattle.sh_types.specs.Elf.{programs_of, heads_of};
-ghost use Rattle.sh_types.specs.ElfRules as part;
+ghost use Rattle.sh_types.specs.ElfRules as elf_rules;
 ghost use Rattle.sh_types.specs.declared.elf.Head.{Head};
 ghost use Rattle.sh_types.specs.declared.elf.Span.{Span};
 ghost use Rattle.elf_read.specs.Readable.{HasTables};
 
-use crate::fields::{head, program, u16_at, u64_at};
+use crate::fields::{HEAD_SIZE, PROGRAM_SIZE, head, program, u16_at, u64_at};
 use crate::header::{E_PHNUM, E_PHOFF, E_SHNUM, E_SHOFF};
 use sh_types::{Head, Program, Section, Segment, Span};
 use std::alloc::{AllocError, Global};
@@ -29,7 +29,7 @@ pub fn programs(alloc: Global, bytes: &[u8]) -> Result<Vec<Program>, AllocError>
     let count = u16_at(bytes, E_PHNUM);
     for _ in 0..count {
         found.push(program(bytes, place))?;
-        place += 56;
+        place += PROGRAM_SIZE as usize;
     }
     Ok(found)
 }
@@ -45,7 +45,7 @@ pub fn heads(alloc: Global, bytes: &[u8]) -> Result<Vec<Head>, AllocError>
     let count = u16_at(bytes, E_SHNUM);
     for _ in 0..count {
         found.push(head(bytes, place))?;
-        place += 64;
+        place += HEAD_SIZE as usize;
     }
     Ok(found)
 }
@@ -54,13 +54,11 @@ pub fn heads(alloc: Global, bytes: &[u8]) -> Result<Vec<Head>, AllocError>
 pub fn loads(alloc: Global, programs: &[Program]) -> Result<Vec<Segment>, AllocError>
     ensures { IfOk result (λ found. found.items ≡ elf.loads programs.now) }
 {
-    let mut found = Vec::new(alloc);
-    for program in programs {
-        if program.kind == PT_LOAD {
-            found.push(program.segment)?;
-        }
-    }
-    Ok(found)
+    programs
+        .iter()
+        .filter(|program| program.kind == PT_LOAD)
+        .map(|program| program.segment)
+        .collect(alloc)
 }
 
 fn is_code(head: &Head) -> bool
@@ -102,7 +100,7 @@ pub fn code_heads(alloc: Global, heads: &[Head]) -> Result<Vec<Head>, AllocError
 
 /// The addresses of the segments with memory.
 pub fn filled(alloc: Global, segments: &[Segment]) -> Result<Vec<Span>, AllocError>
-    ensures spans { IfOk result (λ found. found.items ≡ part.filled segments.now) }
+    ensures spans { IfOk result (λ found. found.items ≡ elf_rules.filled segments.now) }
     ensures sizes { IfOk result (λ found. All (λ (s : Span). 0 < s.size) found.items) }
 {
     let mut found = Vec::new(alloc);
@@ -120,7 +118,7 @@ pub fn filled(alloc: Global, segments: &[Segment]) -> Result<Vec<Span>, AllocErr
 /// The addresses of sections with a size.
 pub fn head_spans(alloc: Global, heads: &[Head]) -> Result<Vec<Span>, AllocError>
     requires { All (λ (h : Head). 0 < h.size) heads.now }
-    ensures spans { IfOk result (λ found. found.items ≡ map part.head_span heads.now) }
+    ensures spans { IfOk result (λ found. found.items ≡ map elf_rules.head_span heads.now) }
     ensures sizes { IfOk result (λ found. All (λ (s : Span). 0 < s.size) found.items) }
 {
     let mut found = Vec::new(alloc);
