@@ -11,3 +11,6 @@ mod tables;
 
 pub use fields::{lies_in, raw_symbol, u8_at, u16_at, u32_at, u64_at};
 pub use read::read_elf;
+
+#[cfg(test)]
+mod tests;
