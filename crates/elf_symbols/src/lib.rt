@@ -8,3 +8,6 @@ mod strings;
 mod table;
 
 pub use read::symbols;
+
+#[cfg(test)]
+mod tests;
