@@ -9,3 +9,6 @@ mod refusal;
 mod starts;
 
 pub use functions::split;
+
+#[cfg(test)]
+mod tests;

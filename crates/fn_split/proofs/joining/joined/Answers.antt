@@ -1,5 +1,4 @@
-use Rattle.std.proofs.Common.{rules, ◌∙◌, ap, subst}
-use Rattle.std.specs.List.Sorted.{IsNonDecreasingBy, IsPermutation, IsStableByKey}
+use Rattle.std.proofs.Common.{rules, ◌∙◌, ap}
 use Rattle.sh_types.specs.declared.code.Start.{Start}
 use Rattle.std.proofs.lemmas.List.Sorted.{IsNonDecreasingBy-from_sort_by_key, answers_always, All-permutation}
 use Rattle.fn_split.specs.Low.{EndsLow}

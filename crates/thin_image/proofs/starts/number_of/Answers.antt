@@ -1,7 +1,7 @@
 use Rattle.std.proofs.Common.{sym, Ok, Err}
 use Rattle.std.proofs.lemmas.List.Sorted.{searched}
 use Rattle.thin_image.proofs.Numbered.{never_falls, number_found, number_missing}
-use Rattle.thin_image.proofs.symbols.number_of.Goals as goal
+use Rattle.thin_image.proofs.starts.number_of.Goals as goal
 
 pub returns-in-Ok : goal.returns-in-Ok
 returns-in-Ok c =
