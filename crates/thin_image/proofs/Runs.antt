@@ -180,7 +180,8 @@ copyable image =
     }
 
 -- a machine can be made of an image with one region, once it has classes and frames
-pub runs : (found image : Image) → IsCoded image → length image.regions ≡ 1 → found ≡ classified image → IsRunnable found
+pub runs : (found image : Image) → IsCoded image → (length image.regions == 1) ≡ true → found ≡ classified image → IsRunnable found
 unfolding classified sizes_of
 runs found image coded one e =
-    rw e (record { sized = sized image coded; copyable = copyable image; entry = coded.entry; regions = coded.stack one })
+    let regions : length image.regions ≡ 1 = grind (arith, nat_tests, one) in
+    rw e (record { sized = sized image coded; copyable = copyable image; entry = coded.entry; regions = coded.stack regions })

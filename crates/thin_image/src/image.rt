@@ -1,5 +1,5 @@
 //! Thin images with their classes and frames.
-ghost use Rattle.std.specs.Prelude.{◌≡◌, IfOk, IfSome, None, Some, if◌then◌else◌};
+ghost use Rattle.std.specs.Prelude.{◌≡◌, ◌==◌, IfOk, IfSome, None, Some, if◌then◌else◌, length};
 ghost use Rattle.sh_types.specs.Coded.{IsCoded};
 ghost use Rattle.sh_types.specs.Image.{starts_of};
 ghost use Rattle.sh_types.specs.Runnable.{IsRunnable};
@@ -12,6 +12,13 @@ use crate::starts::starts_of;
 use crate::words::are_thin_functions;
 use sh_types::{Image, Items, NoMemory};
 use std::alloc::{AllocError, Global};
+
+/// Whether one region can be read: the first stack, in the image of an accepted file.
+fn has_one_region(image: &Image) -> bool
+    ensures { result ≡ (length image.now.regions == 1) }
+{
+    image.regions.len() == 1
+}
 
 /// The image with the classes and frames of a thin one.
 #[tactic(auto, unfolding(sh_types::specs::Thin::classified))]
@@ -30,18 +37,18 @@ fn classified(alloc: Global, image: Image, starts: &[u64]) -> Result<Image, Allo
     })
 }
 
-/// The image of an accepted file with its classes and frames where it is thin, and None where it is not: where it has
-/// readable bytes beside the first stack, or a function has other words than those of a thin file. What the classes
-/// and frames of the image were does not count. A machine can be made of the image that is given back. Err where
-/// memory is refused. The target of a call is found by a search among the starts, so the time is that of the number
-/// of words times the logarithm of the number of functions.
+/// The image with its classes and frames where it is thin, and None where it is not: where bytes can be read beside
+/// the first stack, or a function has other words than a thin file's. It is the image of an accepted file, and its own
+/// classes and frames do not count. A machine can be made of the image that is given back. Err where memory is
+/// refused. The target of a call is found by a search among the starts, so the time is that of the number of words
+/// times the logarithm of the number of functions.
 #[tactic(auto, using(crate::proofs::Rising::rises, crate::proofs::Rising::laid_out), unfolding(sh_types::specs::Thin::is_thin))]
 pub fn classify(alloc: Global, image: Image) -> Result<Option<Image>, NoMemory>
     requires { IsCoded image }
     ensures is { IfOk result (λ found. found ≡ (if is_thin image then Some (classified image) else None)) }
     ensures runnable { IfOk result (λ found. IfSome found IsRunnable) }
 {
-    if image.regions.len() != 1 {
+    if !has_one_region(&image) {
         return Ok(None);
     }
     let starts = starts_of(alloc, image.functions.as_slice())?;
