@@ -1,0 +1,1 @@
+-- The functions that symbols, sections and the entry give.
