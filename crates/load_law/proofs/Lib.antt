@@ -1,4 +1,6 @@
 pub mod Apart
+pub mod Functions
+pub mod Homes
 pub mod Order
 pub mod Ranges
 pub mod Rules
