@@ -5,3 +5,4 @@ pub mod Order
 pub mod Ranges
 pub mod Rules
 pub mod Segments
+pub mod Words
