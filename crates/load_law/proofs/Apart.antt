@@ -1,5 +1,5 @@
 -- Parts of memory of which no two share a byte, by rising addresses.
-use Rattle.std.proofs.Common.{◌≡◌, ℕ, zero, suc, ◌+◌, ◌<◌, ◌≤◌, Bool, true, false, cond, List, [], ◌∷◌, length, get_or, arith, refl}
+use Rattle.std.proofs.Common.{◌≡◌, ℕ, zero, suc, ◌+◌, ◌<◌, ◌≤◌, false, List, [], ◌∷◌, length, get_or, arith}
 use Rattle.std.specs.Prelude.{map, nat_le}
 use Rattle.std.specs.List.{list_any, AllByRecursion}
 use Rattle.std.proofs.lemmas.Bool.{cond_both, or_parts}
@@ -53,13 +53,13 @@ module _ {A : Type 0} (span : A → Span) where
       let rest = put_apart x ys some filled.1 none.1 apart.1 in
       cond_both (nat_le (start_of x) (start_of y)) (x ∷ y ∷ ys) (y ∷ put_by start_of x ys) AreApart
       (λ e.
-        let le : (span x).start ≤ (span y).start = grind (arith, nat_tests, e) in
-        let first : IsBehind x y = behind (span x) (span y) filled.0 le none.0 in
-        ((first, each (IsBehind y) (IsBehind x) (λ z h. omega (arith, h, first)) ys apart.0), apart))
+      let le : (span x).start ≤ (span y).start = grind (arith, nat_tests, e) in
+      let first : IsBehind x y = behind (span x) (span y) filled.0 le none.0 in
+      ((first, each (IsBehind y) (IsBehind x) (λ z h. omega (arith, h, first)) ys apart.0), apart))
       (λ e.
-        let lt : (span y).start < (span x).start = grind (arith, nat_tests, e) in
-        let first : IsBehind y x = before (span x) (span y) some lt none.0 in
-        (put_all start_of (IsBehind y) x ys first apart.0, rest))
+      let lt : (span y).start < (span x).start = grind (arith, nat_tests, e) in
+      let first : IsBehind y x = before (span x) (span y) some lt none.0 in
+      (put_all start_of (IsBehind y) x ys first apart.0, rest))
 
   pub rising_apart : (xs : List A) → AllByRecursion IsFilled xs → any_share (map span xs) ≡ false → AreApart (rising_by start_of xs)
   rising_apart [] filled none = tt

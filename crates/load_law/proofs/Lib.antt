@@ -1,4 +1,5 @@
 pub mod Apart
+pub mod Coded
 pub mod Functions
 pub mod Homes
 pub mod Order

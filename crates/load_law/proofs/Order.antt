@@ -1,7 +1,6 @@
 -- Segments with memory and sections with code, by rising addresses, share no byte.
-use Rattle.std.proofs.Common.{◌≡◌, ℕ, ◌+◌, ◌<◌, ◌≤◌, true, List, None, length, get_or, arith, refl}
+use Rattle.std.proofs.Common.{◌≡◌, ℕ, ◌<◌, true, List, None, arith}
 use Rattle.std.specs.Prelude.{filter, not, ◌==◌, ◌&&◌}
-use Rattle.std.specs.List.{AllByRecursion}
 use Rattle.std.proofs.lemmas.Bool.{and_parts}
 use Rattle.std.proofs.lemmas.Bool.Decides.{nat_tests}
 use Rattle.sh_types.specs.declared.elf.Head.{Head}
@@ -9,7 +8,7 @@ use Rattle.sh_types.specs.declared.elf.Segment.{Segment}
 use Rattle.sh_types.specs.Accepted.{codes_in_order, filled_in_order}
 use Rattle.sh_types.specs.Elf.{has, heads_of, is_code, segments_of}
 use Rattle.sh_types.specs.ElfRules.{first_failing, table_rules, segment_span, head_span, has_memory}
-use Rattle.load_law.proofs.Apart.{AreApart, rising_apart, apart_at}
+use Rattle.load_law.proofs.Apart.{AreApart, rising_apart}
 use Rattle.load_law.proofs.Rules.{mapped, each, passes}
 
 has_bytes : (g : Segment) → has_memory g ≡ true → 0 < g.size

@@ -1,12 +1,10 @@
 -- What the rules say, one by one, of a file of which none fails.
-use Rattle.std.proofs.Common.{◌≡◌, ℕ, ◌+◌, ◌<◌, ◌≤◌, Bool, true, false, cond, List, [], ◌∷◌, Option, Some, None, refl, sym, ap, ◌∙◌, inl, inr}
+use Rattle.std.proofs.Common.{◌≡◌, ℕ, Bool, true, false, cond, List, [], ◌∷◌, Some, None, sym, ap, ◌∙◌, inl, inr}
 use Rattle.std.specs.Prelude.{filter, map, not, ◌%◌, ◌==◌}
 use Rattle.std.specs.List.{list_any, AllByRecursion}
 use Rattle.std.proofs.lemmas.Bool.{cases_Bool, cond_both, or_parts, not-false}
-use Rattle.sh_types.specs.declared.elf.Head.{Head}
-use Rattle.sh_types.specs.declared.elf.Segment.{Segment}
 use Rattle.sh_types.specs.declared.refusals.ElfRule.{ElfRule}
-use Rattle.sh_types.specs.Elf.{heads_of, section_of, sections_of, entry_of, is_code, segments_of}
+use Rattle.sh_types.specs.Elf.{heads_of, sections_of, entry_of, is_code, segments_of}
 use Rattle.sh_types.specs.ElfRules.{fails, first_failing, table_rules, symbol_rules, runs_at, bad_start, bad_codes, bad_code, bad_segments, bad_segment, any_share, filled, head_span}
 
 -- a rule of a list of which none fails does not fail

@@ -1,14 +1,12 @@
 -- The words of each function lie in the section that its home address finds, and so in the file.
-use Rattle.std.proofs.Common.{◌≡◌, ◌⊎◌, inl, inr, ℕ, ◌+◌, ◌-◌, ◌<◌, ◌≤◌, Bool, true, false, cond, Option, Some, None, List, [], ◌∷◌, length, refl, sym, ap, ◌∙◌, subst, arith, All}
-use Rattle.std.specs.Prelude.{filter, find, map, nat_lt, nat_le, ◌&&◌, IsTrue, unwrap_or}
+use Rattle.std.proofs.Common.{◌≡◌, ◌⊎◌, inl, inr, ℕ, ◌+◌, ◌-◌, ◌<◌, ◌≤◌, true, false, Some, None, List, [], ◌∷◌, length, refl, sym, ap, ◌∙◌, subst, arith, All}
+use Rattle.std.specs.Prelude.{filter, find, nat_le, IsTrue, unwrap_or}
 use Rattle.std.specs.List.{AllByRecursion}
 use Rattle.std.proofs.lemmas.List.Elements.{All-from_recursion}
 use Rattle.std.proofs.lemmas.Bool.{cases_Bool, cond-true, cond-false, cond_both, false≢true}
 use Rattle.std.proofs.lemmas.Bool.Decides.{nat_tests}
-use Rattle.sh_types.specs.declared.code.Function.{Function}
 use Rattle.sh_types.specs.declared.code.Start.{Start}
 use Rattle.sh_types.specs.declared.elf.Head.{Head}
-use Rattle.sh_types.specs.declared.elf.Section.{Section}
 use Rattle.sh_types.specs.Accepted.{codes_in_order, file_functions, is_inside, put_by, rising_by, section_with}
 use Rattle.sh_types.specs.Elf.{entry_of, heads_of, is_code, no_head, sections_of, symbols_of}
 use Rattle.sh_types.specs.ElfRules.{first_failing, head_span, table_rules}
@@ -57,10 +55,11 @@ put_keeps h x (y ∷ ys) a =
 -- each of a list has its own bounds, also in order
 own : (hs : List Head) → AllByRecursion (λ (h : Head). IsOf (rising_by start_of hs) h.start (h.start + h.size)) hs
 own [] = tt
-own (h ∷ hs) =
-    (record { head = h; among = put_has h (rising_by start_of hs); start = refl; end = refl },
-    each (λ (c : Head). IsOf (rising_by start_of hs) c.start (c.start + c.size)) (λ (c : Head). IsOf (put_by start_of h (rising_by start_of hs)) c.start (c.start + c.size))
-      (λ c o. record { head = o.head; among = put_keeps o.head h (rising_by start_of hs) o.among; start = o.start; end = o.end }) hs (own hs))
+own (h ∷ hs) = (
+  record { head = h; among = put_has h (rising_by start_of hs); start = refl; end = refl },
+  each (λ (c : Head). IsOf (rising_by start_of hs) c.start (c.start + c.size)) (λ (c : Head). IsOf (put_by start_of h (rising_by start_of hs)) c.start (c.start + c.size))
+      (λ c o. record { head = o.head; among = put_keeps o.head h (rising_by start_of hs) o.among; start = o.start; end = o.end }) hs (own hs),
+)
 
 of_sections : (b : List ℕ) → AllByRecursion (λ s. IsTrue s.executable → IsOfSome (codes_in_order b) s.start (end_of s)) (sections_of b)
 unfolding codes_in_order
@@ -130,7 +129,7 @@ module _ (b : List ℕ) (fine : first_failing table_rules b ≡ None) where
       let from = ranges_within (IsOfSome (codes_in_order b)) (λ l. absurd (omega (arith, l))) (symbols_of b) (sections_of b) (entry_of b) (of_sections b) in
       of_map (HasWords b) (function (symbols_of b)) ranges
       (both (λ (f : Start). IsOfSome (codes_in_order b) f.low f.high) IsSound (λ f. HasWords b (function (symbols_of b) f)) has_words ranges from
-        (all_sound 0 ranges (are_split (symbols_of b) (sections_of b) (entry_of b) split).rise))
+      (all_sound 0 ranges (are_split (symbols_of b) (sections_of b) (entry_of b) split).rise))
 
 pub words_lie : (b : List ℕ) → first_failing table_rules b ≡ None → split_refusal (symbols_of b) (sections_of b) (entry_of b) ≡ None → All (HasWords b) (file_functions b)
 words_lie b fine split = All-from_recursion (HasWords b) (file_functions b) (all_words b fine split)
