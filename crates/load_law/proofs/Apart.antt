@@ -1,8 +1,8 @@
 -- Parts of memory of which no two share a byte, by rising addresses.
-use Rattle.std.proofs.Common.{◌≡◌, ℕ, zero, suc, ◌+◌, ◌<◌, ◌≤◌, false, List, [], ◌∷◌, length, get_or, arith}
-use Rattle.std.specs.Prelude.{map, nat_le}
+use Rattle.std.proofs.Common.{◌≡◌, ◌⊎◌, inl, inr, ℕ, zero, suc, ◌+◌, ◌<◌, ◌≤◌, Bool, true, false, List, [], ◌∷◌, Some, length, get_or, arith, refl, sym, ap, ◌∙◌, subst}
+use Rattle.std.specs.Prelude.{find, map, nat_le, nat_lt, ◌&&◌, ◌||◌}
 use Rattle.std.specs.List.{list_any, AllByRecursion}
-use Rattle.std.proofs.lemmas.Bool.{cond_both, or_parts}
+use Rattle.std.proofs.lemmas.Bool.{cases_Bool, cond-true, cond-false, cond_both, false≢true, or_parts}
 use Rattle.std.proofs.lemmas.Bool.Decides.{nat_tests}
 use Rattle.sh_types.specs.declared.elf.Span.{Span}
 use Rattle.sh_types.specs.Accepted.{put_by, rising_by}
@@ -19,6 +19,53 @@ put_all key P x (y ∷ ys) p all =
 pub rising_all : {A : Type 0} (key : A → ℕ) (P : A → Type 0) (xs : List A) → AllByRecursion P xs → AllByRecursion P (rising_by key xs)
 rising_all key P [] all = tt
 rising_all key P (x ∷ xs) all = put_all key P x (rising_by key xs) all.0 (rising_all key P xs all.1)
+
+list_any_put : {A : Type 0} (key : A → ℕ) (test : A → Bool) (x : A) (ys : List A) → list_any test (put_by key x ys) ≡ (test x || list_any test ys)
+list_any_put key test x [] = refl
+list_any_put key test x (y ∷ ys) =
+    let rest = list_any_put key test x ys in
+    cond_both (nat_le (key x) (key y)) (x ∷ y ∷ ys) (y ∷ put_by key x ys) (λ zs. list_any test zs ≡ (test x || (test y || list_any test ys))) (λ e. refl)
+    (λ e. ap (λ t. test y || t) rest ∙ swapped (test y) (test x) (list_any test ys))
+  where
+    swapped : (p q r : Bool) → (p || (q || r)) ≡ (q || (p || r))
+    swapped true true r = refl
+    swapped true false r = refl
+    swapped false q r = refl
+
+pub list_any_rising : {A : Type 0} (key : A → ℕ) (test : A → Bool) (xs : List A) → list_any test (rising_by key xs) ≡ list_any test xs
+list_any_rising key test [] = refl
+list_any_rising key test (x ∷ xs) = list_any_put key test x (rising_by key xs) ∙ ap (λ t. test x || t) (list_any_rising key test xs)
+
+-- one of a list
+abbrev pub Among : {A : Type 0} → A → List A → Type 0
+Among x [] = ⊥
+Among x (y ∷ ys) = (y ≡ x) ⊎ Among x ys
+
+pub of_among : {A : Type 0} (P : A → Type 0) (x : A) (ys : List A) → AllByRecursion P ys → Among x ys → P x
+of_among P x [] all a = absurd a
+of_among P x (y ∷ ys) all (inl e) = subst P e all.0
+of_among P x (y ∷ ys) all (inr a) = of_among P x ys all.1 a
+
+pub put_has : {A : Type 0} (key : A → ℕ) (x : A) (ys : List A) → Among x (put_by key x ys)
+put_has key x [] = inl refl
+put_has key x (y ∷ ys) =
+    let rest = put_has key x ys in
+    cond_both (nat_le (key x) (key y)) (x ∷ y ∷ ys) (y ∷ put_by key x ys) (Among x) (λ e. inl refl) (λ e. inr rest)
+
+pub put_keeps : {A : Type 0} (key : A → ℕ) (z x : A) (ys : List A) → Among z ys → Among z (put_by key x ys)
+put_keeps key z x [] a = absurd a
+put_keeps key z x (y ∷ ys) a =
+    let rest = put_keeps key z x ys in
+    cond_both (nat_le (key x) (key y)) (x ∷ y ∷ ys) (y ∷ put_by key x ys) (Among z) (λ e. inr a) (λ e. by rest a)
+  where
+    by : (Among z ys → Among z (put_by key x ys)) → Among z (y ∷ ys) → Among z (y ∷ put_by key x ys)
+    by rest (inl e) = inl e
+    by rest (inr a) = inr (rest a)
+
+pub rising_keeps : {A : Type 0} (key : A → ℕ) (z : A) (xs : List A) → Among z xs → Among z (rising_by key xs)
+rising_keeps key z [] a = absurd a
+rising_keeps key z (x ∷ xs) (inl e) = subst (λ z. Among z (put_by key x (rising_by key xs))) e (put_has key x (rising_by key xs))
+rising_keeps key z (x ∷ xs) (inr a) = put_keeps key z x (rising_by key xs) (rising_keeps key z xs a)
 
 behind : (s t : Span) → 0 < t.size → s.start ≤ t.start → share s t ≡ false → s.start + s.size ≤ t.start
 unfolding share
@@ -79,3 +126,27 @@ module _ {A : Type 0} (span : A → Span) where
   apart_at (x ∷ xs) apart j zero d l m = absurd (omega arith)
   apart_at (x ∷ xs) apart zero (suc k) d l m = of_index (IsBehind x) xs k d apart.0 (omega arith)
   apart_at (x ∷ xs) apart (suc j) (suc k) d l m = apart_at xs apart.1 j k d (omega arith) (omega arith)
+
+  -- the only one with an address is found
+  abbrev pub is_at : ℕ → A → Bool
+  is_at a x = nat_le (span x).start a && nat_lt a ((span x).start + (span x).size)
+
+  apart_not : (a : ℕ) (x y : A) → IsBehind x y → is_at a x ≡ true → is_at a y ≡ true → ⊥
+  apart_not a x y l s t = grind (arith, nat_tests, l, s, t)
+
+  pub found : (a : ℕ) (xs : List A) (y : A) → AreApart xs → Among y xs → is_at a y ≡ true → find (is_at a) xs ≡ Some y
+  found a [] y apart among i = absurd among
+  found a (x ∷ xs) y apart among i =
+      let rest = found a xs y apart.1 in
+      elim (cases_Bool (is_at a x)) [
+        | inl e ↦ cond-true (is_at a x) (Some x) (find (is_at a) xs) e ∙ ap Some (same e among)
+        | inr e ↦ cond-false (is_at a x) (Some x) (find (is_at a) xs) e ∙ by rest e among
+      ]
+    where
+      same : is_at a x ≡ true → Among y (x ∷ xs) → x ≡ y
+      same e (inl q) = q
+      same e (inr m) = absurd (apart_not a x y (of_among (IsBehind x) y xs apart.0 m) e i)
+
+      by : (Among y xs → is_at a y ≡ true → find (is_at a) xs ≡ Some y) → is_at a x ≡ false → Among y (x ∷ xs) → find (is_at a) xs ≡ Some y
+      by rest e (inl q) = absurd (false≢true (sym e ∙ ap (is_at a) q ∙ i))
+      by rest e (inr m) = rest m i

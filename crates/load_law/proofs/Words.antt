@@ -1,9 +1,8 @@
 -- The words of each function lie in the section that its home address finds, and so in the file.
-use Rattle.std.proofs.Common.{◌≡◌, ◌⊎◌, inl, inr, ℕ, ◌+◌, ◌-◌, ◌<◌, ◌≤◌, true, false, Some, None, List, [], ◌∷◌, length, refl, sym, ap, ◌∙◌, subst, arith, All}
-use Rattle.std.specs.Prelude.{filter, find, nat_le, IsTrue, unwrap_or}
+use Rattle.std.proofs.Common.{◌≡◌, ℕ, ◌+◌, ◌-◌, ◌<◌, ◌≤◌, true, None, List, [], ◌∷◌, length, refl, sym, ap, ◌∙◌, subst, arith, All}
+use Rattle.std.specs.Prelude.{filter, IsTrue, unwrap_or}
 use Rattle.std.specs.List.{AllByRecursion}
 use Rattle.std.proofs.lemmas.List.Elements.{All-from_recursion}
-use Rattle.std.proofs.lemmas.Bool.{cases_Bool, cond-true, cond-false, cond_both, false≢true}
 use Rattle.std.proofs.lemmas.Bool.Decides.{nat_tests}
 use Rattle.sh_types.specs.declared.code.Start.{Start}
 use Rattle.sh_types.specs.declared.elf.Head.{Head}
@@ -12,7 +11,7 @@ use Rattle.sh_types.specs.Elf.{entry_of, heads_of, is_code, no_head, sections_of
 use Rattle.sh_types.specs.ElfRules.{first_failing, head_span, table_rules}
 use Rattle.sh_types.specs.Splitting.{end_of, function, functions_of, ranges_of, split_refusal}
 use Rattle.load_law.specs.Placed.{HasWords}
-use Rattle.load_law.proofs.Apart.{AreApart, rising_all}
+use Rattle.load_law.proofs.Apart.{Among, found, of_among, put_has, put_keeps, rising_all}
 use Rattle.load_law.proofs.Functions.{IsSound, all_sound, are_split}
 use Rattle.load_law.proofs.Order.{codes_apart}
 use Rattle.load_law.proofs.Ranges.{of_map, ranges_within}
@@ -21,10 +20,6 @@ use Rattle.load_law.proofs.Segments.{IsHeld, codes_held, of_executable}
 
 abbrev start_of : Head → ℕ
 start_of h = h.start
-
-abbrev Among : Head → List Head → Type 0
-Among h [] = ⊥
-Among h (c ∷ cs) = (c ≡ h) ⊎ Among h cs
 
 -- the bounds of a section with code, or of none
 record IsOf (cs : List Head) (low high : ℕ) : Type 0 where
@@ -36,29 +31,13 @@ record IsOf (cs : List Head) (low high : ℕ) : Type 0 where
 abbrev IsOfSome : List Head → ℕ → ℕ → Type 0
 IsOfSome cs low high = low < high → IsOf cs low high
 
-put_has : (x : Head) (ys : List Head) → Among x (put_by start_of x ys)
-put_has x [] = inl refl
-put_has x (y ∷ ys) =
-    let rest = put_has x ys in
-    cond_both (nat_le x.start y.start) (x ∷ y ∷ ys) (y ∷ put_by start_of x ys) (Among x) (λ e. inl refl) (λ e. inr rest)
-
-put_keeps : (h x : Head) (ys : List Head) → Among h ys → Among h (put_by start_of x ys)
-put_keeps h x [] a = absurd a
-put_keeps h x (y ∷ ys) a =
-    let rest = put_keeps h x ys in
-    cond_both (nat_le x.start y.start) (x ∷ y ∷ ys) (y ∷ put_by start_of x ys) (Among h) (λ e. inr a) (λ e. by rest a)
-  where
-    by : (Among h ys → Among h (put_by start_of x ys)) → Among h (y ∷ ys) → Among h (y ∷ put_by start_of x ys)
-    by rest (inl e) = inl e
-    by rest (inr a) = inr (rest a)
-
 -- each of a list has its own bounds, also in order
 own : (hs : List Head) → AllByRecursion (λ (h : Head). IsOf (rising_by start_of hs) h.start (h.start + h.size)) hs
 own [] = tt
 own (h ∷ hs) = (
-  record { head = h; among = put_has h (rising_by start_of hs); start = refl; end = refl },
+  record { head = h; among = put_has start_of h (rising_by start_of hs); start = refl; end = refl },
   each (λ (c : Head). IsOf (rising_by start_of hs) c.start (c.start + c.size)) (λ (c : Head). IsOf (put_by start_of h (rising_by start_of hs)) c.start (c.start + c.size))
-      (λ c o. record { head = o.head; among = put_keeps o.head h (rising_by start_of hs) o.among; start = o.start; end = o.end }) hs (own hs),
+      (λ c o. record { head = o.head; among = put_keeps start_of o.head h (rising_by start_of hs) o.among; start = o.start; end = o.end }) hs (own hs),
 )
 
 of_sections : (b : List ℕ) → AllByRecursion (λ s. IsTrue s.executable → IsOfSome (codes_in_order b) s.start (end_of s)) (sections_of b)
@@ -67,37 +46,10 @@ of_sections b =
     of_executable (λ s. IsOfSome (rising_by start_of (filter is_code (heads_of b))) s.start (end_of s)) (heads_of b)
     (each (λ (h : Head). IsOf (rising_by start_of (filter is_code (heads_of b))) h.start (h.start + h.size)) (λ (h : Head). IsOfSome (rising_by start_of (filter is_code (heads_of b))) h.start (h.start + h.size)) (λ h o l. o) (filter is_code (heads_of b)) (own (filter is_code (heads_of b))))
 
--- ---- the section that an address finds
-
-of_among : (P : Head → Type 0) (cs : List Head) (h : Head) → AllByRecursion P cs → Among h cs → P h
-of_among P [] h all a = absurd a
-of_among P (c ∷ cs) h all (inl e) = subst P e all.0
-of_among P (c ∷ cs) h all (inr a) = of_among P cs h all.1 a
-
-apart_not : (a : ℕ) (c h : Head) → c.start + c.size ≤ h.start → is_inside a c ≡ true → is_inside a h ≡ true → ⊥
-apart_not a c h l x y = grind (arith, nat_tests, l, x, y)
-
-found : (a : ℕ) (cs : List Head) (h : Head) → AreApart head_span cs → Among h cs → is_inside a h ≡ true → find (is_inside a) cs ≡ Some h
-found a [] h apart among i = absurd among
-found a (c ∷ cs) h apart among i =
-    let rest = found a cs h apart.1 in
-    elim (cases_Bool (is_inside a c)) [
-      | inl e ↦ cond-true (is_inside a c) (Some c) (find (is_inside a) cs) e ∙ ap Some (same e among)
-      | inr e ↦ cond-false (is_inside a c) (Some c) (find (is_inside a) cs) e ∙ by rest e among
-    ]
-  where
-    same : is_inside a c ≡ true → Among h (c ∷ cs) → c ≡ h
-    same e (inl q) = q
-    same e (inr m) = absurd (apart_not a c h (of_among (λ (h : Head). c.start + c.size ≤ h.start) cs h apart.0 m) e i)
-
-    by : (Among h cs → is_inside a h ≡ true → find (is_inside a) cs ≡ Some h) → is_inside a c ≡ false → Among h (c ∷ cs) → find (is_inside a) cs ≡ Some h
-    by rest e (inl q) = absurd (false≢true (sym e ∙ ap (is_inside a) q ∙ i))
-    by rest e (inr m) = rest m i
+-- ---- functions
 
 inside : (a : ℕ) (h : Head) → h.start ≤ a → a < h.start + h.size → is_inside a h ≡ true
 inside a h l m = grind (arith, nat_tests, l, m)
-
--- ---- functions
 
 words_in : (b : List ℕ) (f : Start) (h : Head) → IsSound f → IsHeld b h → h.start ≡ f.low → h.start + h.size ≡ f.high → section_with (codes_in_order b) f.home ≡ h → HasWords b (function (symbols_of b) f)
 words_in b f h s held low high e =
@@ -119,8 +71,8 @@ module _ (b : List ℕ) (fine : first_failing table_rules b ≡ None) where
   has_words f o s =
       let c = o (omega (arith, s.low, s.home)) in
       let in_it = inside f.home c.head (omega (arith, s.low, c.start)) (omega (arith, s.home, c.end)) in
-      let e = found f.home (codes_in_order b) c.head (codes_apart b fine) c.among in_it in
-      words_in b f c.head s (of_among (IsHeld b) (codes_in_order b) c.head held c.among) c.start c.end (ap (λ o. unwrap_or o no_head) e)
+      let e = found head_span f.home (codes_in_order b) c.head (codes_apart b fine) c.among in_it in
+      words_in b f c.head s (of_among (IsHeld b) c.head (codes_in_order b) held c.among) c.start c.end (ap (λ o. unwrap_or o no_head) e)
 
   all_words : split_refusal (symbols_of b) (sections_of b) (entry_of b) ≡ None → AllByRecursion (HasWords b) (file_functions b)
   unfolding file_functions functions_of
