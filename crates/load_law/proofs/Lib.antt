@@ -1,9 +1,11 @@
 pub mod Apart
+pub mod Bytes
 pub mod Coded
 pub mod Functions
 pub mod Homes
 pub mod Order
 pub mod Ranges
+pub mod Regions
 pub mod Rules
 pub mod Segments
 pub mod Words
