@@ -17,7 +17,7 @@ use Rattle.load_law.proofs.Rules.{each, filtered, passes}
 
 -- ---- regions one behind the other
 
-read_append : (xs ys : List Region) (a : ℕ) → read_at (xs ++ ys) a ≡ option_or (read_at xs a) (read_at ys a)
+pub read_append : (xs ys : List Region) (a : ℕ) → read_at (xs ++ ys) a ≡ option_or (read_at xs a) (read_at ys a)
 read_append [] ys a = refl
 read_append (x ∷ xs) ys a = by (reaches a x) (read_append xs ys a)
   where
@@ -154,7 +154,7 @@ covered_bounds : (a : ℕ) (g : Segment) → is_covered a g ≡ true → (g.star
 covered_bounds a g e = (grind (arith, nat_tests, e), grind (arith, nat_tests, e))
 
 uncovered : (a : ℕ) (g : Segment) → is_covered a g ≡ false → (a < g.start) ⊎ (g.start + g.size ≤ a)
-uncovered a g e = elim (cases_lt a g.start) [ | inl l ↦ inl l | inr m ↦ inr (grind (arith, nat_tests, e, m)) ]
+uncovered a g e = elim (cases_lt a g.start) [ inl l ↦ inl l | inr m ↦ inr (grind (arith, nat_tests, e, m)) ]
 
 module _ (b : List ℕ) (a : ℕ) (codes : List Head) (apart : AreApart head_span codes) where
   -- a section with the address starts in each segment with it
