@@ -39,7 +39,10 @@ fn splitting(rt: HostRuntime) -> Result<(), Fail> {
                 &[(THREE_SYMBOL + 8, 8, 0x1_0038)],
                 split(0x1_0038, SplitRule::Overlap),
             ),
-            (&[(24, 8, 0x1_0004)], split(0x1_0000, SplitRule::EntryInside)),
+            (
+                &[(24, 8, 0x1_0004)],
+                split(0x1_0000, SplitRule::EntryInside),
+            ),
             (&[(24, 8, 0x1_003c)], None),
             (&[(THREE_SYMBOL + 16, 8, 0)], None),
             // `start` has no size of its own, so it ends where the added `entry` starts
@@ -70,7 +73,10 @@ fn limits(rt: HostRuntime) -> Result<(), Fail> {
     let few = many(alloc, 16_384)?;
     assert_eq!(&rt; refusal(&rt, alloc, &few), None);
     let above = many(alloc, 16_385)?;
-    assert_eq!(&rt; refusal(&rt, alloc, &above), limit(LimitKind::Functions, 16_385));
+    assert_eq!(&rt;
+        refusal(&rt, alloc, &above),
+        limit(LimitKind::Functions, 16_385)
+    );
     let mut code = Vec::new(alloc);
     code.resize(131_072, 0x13)?;
     for (words, want) in [(131_072, None), (131_073, limit(LimitKind::Code, 524_292))] {

@@ -2,16 +2,12 @@
 #![tactic(auto)]
 
 #[cfg(test)]
-mod patches;
-
+mod functions;
 #[cfg(test)]
 mod headers;
-
+#[cfg(test)]
+mod patches;
 #[cfg(test)]
 mod sections;
-
 #[cfg(test)]
 mod symbols;
-
-#[cfg(test)]
-mod functions;

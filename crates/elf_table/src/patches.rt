@@ -15,12 +15,16 @@ pub type Case<'a> = (&'a [Patch], Option<LoadFault>);
 
 /// Where the two program headers stand (System V gABI, "Program Header").
 pub const FIRST_PROGRAM: usize = 64;
+
 pub const SECOND_PROGRAM: usize = 120;
 
 /// Where the symbols of `start` and `three`, the strings and the section headers stand.
 pub const START_SYMBOL: usize = 0x2018;
+
 pub const THREE_SYMBOL: usize = 0x2030;
+
 pub const STRINGS_END: usize = 0x2055;
+
 pub const SECTIONS: usize = 0x2098;
 
 /// A number that no place in a file has.
@@ -49,7 +53,9 @@ const CODE: [u32; 17] = [
 
 /// The place of a field of the section header with this number.
 pub const fn section(number: usize, field: usize) -> usize {
-    SECTIONS.wrapping_add(number.wrapping_mul(64)).wrapping_add(field)
+    SECTIONS
+        .wrapping_add(number.wrapping_mul(64))
+        .wrapping_add(field)
 }
 
 /// The file of the first guest.

@@ -412,12 +412,11 @@ module _ (command : Option Command) (seed : List ℕ) (w : World) (done : Done) 
       let l = (line_taken due _ _ is del (λ e. omega arith)).is in absurd (omega arith)
   list_made due name check low (exited other loaded image code why loads within accepts thin built end is) del =
       absurd (one_kind command other name why check)
-  list_made due name check low (listed other loaded why loads within accepts is) del =
-      (
-        loaded,
-        subst (λ (n : List ℕ). Holds w.held n loaded) (one_name command other name (check_is command other why) (check_is command name check)) (whole_file w.held other loaded loads within),
-        listing_taken due loaded is accepts del (λ e. omega arith),
-      )
+  list_made due name check low (listed other loaded why loads within accepts is) del = (
+    loaded,
+    subst (λ (n : List ℕ). Holds w.held n loaded) (one_name command other name (check_is command other why) (check_is command name check)) (whole_file w.held other loaded loads within),
+    listing_taken due loaded is accepts del (λ e. omega arith),
+  )
 
   refused_rose : (due : Option (List ℕ)) (old new : SinkState) → Refused due old new → Rose old.faults new.faults
   refused_rose None old new r = absurd r

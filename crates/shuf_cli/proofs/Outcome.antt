@@ -75,7 +75,7 @@ of_refusal command seed held before now due file loads within (Some fault) refus
 of_size : (command : Command) (seed : List ℕ) (held : Option FileMap) (before now : List FileCall) (due : Due) (file : List ℕ) → Loads held (file_word command) file_limit file
     → (long : Bool) → nat_lt file_limit (length file) ≡ long
     → MatchBool long (due ≡ line_due 11 (too_long_line (file_word command)))
-        (MatchOption (refusal_of file) (IsAcceptedDue command file seed due) (λ fault. due ≡ line_due 12 (fault_line fault)))
+    (MatchOption (refusal_of file) (IsAcceptedDue command file seed due) (λ fault. due ≡ line_due 12 (fault_line fault)))
     → Outcome (Some command) seed held before now due
 of_size command seed held before now due file loads true long line = too_long (file_word command) file (command, refl, refl) loads (grind (arith, nat_tests)) line
 of_size command seed held before now due file loads false long is =
