@@ -1,2 +1,7 @@
-//! The image of an accepted file.
+//! The image of an accepted file, or its first refusal.
 #![tactic(auto)]
+
+mod limits;
+mod order;
+mod regions;
+mod words;
