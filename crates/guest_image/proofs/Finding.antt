@@ -1,14 +1,15 @@
 -- Sections in order: the one that an address lies in, and those that start in a range.
-use Rattle.std.proofs.Common.{◌≡◌, ℕ, zero, suc, ◌+◌, ◌-◌, ◌<◌, ◌≤◌, Bool, true, false, cond, ◌&&◌, List, [], ◌∷◌, length, get_or, take, drop, refl, sym, ap, ◌∙◌, subst, arith, inl, inr}
+use Rattle.std.proofs.Common.{◌≡◌, ℕ, zero, suc, ◌+◌, ◌-◌, ◌<◌, ◌≤◌, Bool, true, false, cond, ◌&&◌, All, List, [], ◌∷◌, length, get_or, take, drop, refl, sym, ap, ◌∙◌, subst, arith, inl, inr}
 use Rattle.std.specs.Prelude.{nat_le, nat_lt, filter, find, unwrap_or, Option, Some, None}
 use Rattle.std.specs.List.Sorted.{IsNonDecreasingBy}
 use Rattle.std.proofs.lemmas.Bool.{cases_Bool, cases_lt, true≢false, false≢true}
 use Rattle.std.proofs.lemmas.Bool.Decides.{nat_tests}
+use Rattle.std.proofs.lemmas.List.Elements.{All-weaker, filter_passes}
 use Rattle.sh_types.specs.declared.elf.Head.{Head}
 use Rattle.sh_types.specs.declared.elf.Segment.{Segment}
 use Rattle.sh_types.specs.Accepted.{codes_within, is_inside, section_with}
 use Rattle.sh_types.specs.Elf.{no_head}
-use Rattle.guest_image.specs.Order.{AreApart}
+use Rattle.guest_image.specs.Order.{AreApart, StartsFrom}
 
 -- ---- sections that are apart rise
 
@@ -116,7 +117,10 @@ part_is low high (h ∷ hs) zero (suc j) le a b c d =
     let rest =
       part_is low high hs zero j le (λ k e l. absurd (omega arith)) (λ k e l m. b (suc k) e (omega arith) (omega arith))
       (λ k e l. c (suc k) e (omega arith)) (λ k e l m. d (suc k) e (omega arith) (omega arith)) in
-    ap (λ t. h ∷ t) rest ∙ sym (ap (λ t. cond t (h ∷ filter (starts_in low high) hs) (filter (starts_in low high) hs)) yes)
+    let all : suc j - 0 ≡ suc j = omega arith in
+    let less : j ≡ j - 0 = omega arith in
+    ap (λ n. take n (h ∷ hs)) all ∙ ap (λ t. h ∷ t) (ap (λ n. take n hs) less ∙ rest)
+    ∙ sym (ap (λ t. cond t (h ∷ filter (starts_in low high) hs) (filter (starts_in low high) hs)) yes)
 part_is low high (h ∷ hs) (suc i) zero le a b c d =
     absurd (omega (arith, a 0 h (omega arith), d 0 h (omega arith) (omega arith)))
 part_is low high (h ∷ hs) (suc i) (suc j) le a b c d =
@@ -129,3 +133,9 @@ part_is low high (h ∷ hs) (suc i) (suc j) le a b c d =
 
 pub within_is : (g : Segment) (codes : List Head) (i j : ℕ) → StartUnder codes g.start i → StartOver codes g.start i → StartUnder codes (g.start + g.size) j → StartOver codes (g.start + g.size) j → take (j - i) (drop i codes) ≡ codes_within g codes
 within_is g codes i j a b c d = part_is g.start (g.start + g.size) codes i j (omega arith) a b c d
+
+pub from_start : (g : Segment) (codes : List Head) → All (StartsFrom g.start) (codes_within g codes)
+from_start g codes =
+    let within = starts_in g.start (g.start + g.size) in
+    let from : (h : Head) → within h ≡ true → g.start ≤ h.start = λ h e. grind (arith, nat_tests, e) in
+    All-weaker (λ h. within h ≡ true) (StartsFrom g.start) from (codes_within g codes) (filter_passes within codes)

@@ -1,12 +1,12 @@
 //! Segments and sections by rising addresses.
-ghost use Rattle.std.specs.Prelude.{◌≡◌, ◌+◌, ◌<◌, ◌≤◌, ◌^◌, ℕ, IfOk, filter, length, slice_index_or, true};
+ghost use Rattle.std.specs.Prelude.{◌≡◌, ◌+◌, ◌<◌, ◌≤◌, ◌^◌, ℕ, All, IfOk, filter, length, slice_index_or, true};
 ghost use Rattle.std.specs.List.Sorted.{IsNonDecreasingBy};
 ghost use Rattle.sh_types.specs.declared.elf.Head.{Head};
 ghost use Rattle.sh_types.specs.declared.elf.Segment.{Segment};
 ghost use Rattle.sh_types.specs.Accepted.{codes_within, file_place, is_inside, rising_by, section_with};
 ghost use Rattle.sh_types.specs.Elf as elf;
 ghost use Rattle.sh_types.specs.ElfRules.{has_memory};
-ghost use Rattle.guest_image.specs.Order.{AreApart};
+ghost use Rattle.guest_image.specs.Order.{AreApart, StartsFrom};
 
 use sh_types::{Head, Segment};
 use std::alloc::{AllocError, Global};
@@ -73,7 +73,8 @@ fn starting_below(codes: &[Head], address: u64) -> usize
 pub fn codes_within<'a>(segment: &Segment, codes: &'a [Head]) -> &'a [Head]
     requires rise { IsNonDecreasingBy (λ (h : Head). h.start) codes.now }
     requires fits { segment.now.start + segment.now.size < 2 ^ 64 }
-    ensures { result.now ≡ codes_within segment.now codes.now }
+    ensures within { result.now ≡ codes_within segment.now codes.now }
+    ensures from { All (StartsFrom segment.now.start) result.now }
 {
     let first = starting_below(codes, segment.start);
     let end = starting_below(codes, segment.start + segment.size);

@@ -1,5 +1,5 @@
 use Rattle.std.proofs.Common.{arith}
-use Rattle.guest_image.proofs.Finding.{in_order, within_is}
+use Rattle.guest_image.proofs.Finding.{from_start, in_order, within_is}
 use Rattle.guest_image.proofs.order.codes_within.Goals as goal
 
 pub slice_bounds-result-count : goal.slice_bounds-result-count
@@ -12,4 +12,5 @@ slice_bounds-result-start c =
 
 pub returns : goal.returns
 returns c =
-    within_is c.args.segment.now c.args.codes.now _ _ c.starting_below-first.ensures.below c.starting_below-first.ensures.above c.starting_below-end.ensures.below c.starting_below-end.ensures.above
+    let within = within_is c.args.segment.now c.args.codes.now _ _ c.starting_below-first.ensures.below c.starting_below-first.ensures.above c.starting_below-end.ensures.below c.starting_below-end.ensures.above in
+    record { within = within; from = rw within (from_start c.args.segment.now c.args.codes.now) }

@@ -8,9 +8,6 @@ starting_by-count-requires c = rise c.args.codes.now c.requires.apart
 pub overflow_sub-result : goal.overflow_sub-result
 overflow_sub-result c = some_below c.args.address c.args.codes.now _ c.starting_by-count.ensures.above c.requires.found
 
-pub bounds-codes : goal.bounds-codes
-bounds-codes c = ?
-
 pub returns : goal.returns
 returns c =
     let some = some_below c.args.address c.args.codes.now _ c.starting_by-count.ensures.above c.requires.found in

@@ -1,13 +1,13 @@
 use Rattle.std.proofs.Common.{arith, rules}
 use Rattle.std.specs.Prelude.{nat_le}
 use Rattle.std.proofs.lemmas.Bool.{leb-true, leb-false}
-use Rattle.std.proofs.lemmas.List.Sorted.{IsPartitionedBy-ltb, IsPartitionPoint-from_clause}
+use Rattle.std.proofs.lemmas.List.Sorted.{IsPartitionedBy-leb, IsPartitionPoint-from_clause}
 use Rattle.sh_types.specs.declared.elf.Head.{Head}
 use Rattle.guest_image.proofs.order.starting_by.Goals as goal
 
 pub returns : goal.returns
 returns c =
-    let parted = IsPartitionedBy-ltb (λ (h : Head). h.start) _ c.args.address c.requires in
+    let parted = IsPartitionedBy-leb (λ (h : Head). h.start) _ c.args.address c.requires in
     let point = IsPartitionPoint-from_clause (λ (h : Head). nat_le h.start c.args.address) _ _ c.partition_point.ensures.partitioned parted (λ a r q k. search rules) in
     record {
       bound = c.partition_point.ensures.bound;
