@@ -1,5 +1,8 @@
 -- The refusals of a file in parts, and what a step of loading tells. This project's own.
 use Rattle.std.specs.Prelude.{◌≡◌, ℕ, List, length, Option, Some, None, Result, Ok, Err}
+use Rattle.sh_types.specs.declared.code.Function.{Function}
+use Rattle.sh_types.specs.declared.elf.Section.{Section}
+use Rattle.sh_types.specs.declared.elf.Symbol.{Symbol}
 use Rattle.sh_types.specs.declared.refusals.ElfFault.{ElfFault}
 use Rattle.sh_types.specs.declared.refusals.ElfFault.TheVariants as elf
 use Rattle.sh_types.specs.declared.refusals.LimitKind.TheVariants as kind
@@ -7,10 +10,11 @@ use Rattle.sh_types.specs.declared.refusals.LoadFault.{LoadFault}
 use Rattle.sh_types.specs.declared.refusals.LoadFault.TheVariants as load
 use Rattle.sh_types.specs.declared.refusals.SplitFault.{SplitFault}
 use Rattle.sh_types.specs.declared.refusals.SplitFault.TheVariants as split
+use Rattle.guest_image.specs.declared.accepted.AcceptedFile.{AcceptedFile}
 use Rattle.sh_types.specs.Accepted.{above, by_rule, by_split, code_by, file_functions, mapped_by, or_later}
 use Rattle.sh_types.specs.Elf.{entry_of, sections_of, segments_of, symbols_of}
-use Rattle.sh_types.specs.ElfRules.{first_failing, symbol_rules}
-use Rattle.sh_types.specs.Splitting.{split_refusal}
+use Rattle.sh_types.specs.ElfRules.{IsReadFrom, first_failing, symbol_rules}
+use Rattle.sh_types.specs.Splitting.{split_refusal, functions_of}
 
 -- ---- faults of the layers below
 
@@ -39,17 +43,21 @@ Passes (Err fault) refusal P = Stops fault refusal
 -- ---- the refusals from a step on
 
 -- by the limits on functions
-unfoldable pub limit_refusal : List ℕ → Option LoadFault
-limit_refusal b = or_later (above kind.Functions 16384 (length (file_functions b))) (above kind.Code 524288 (code_by (file_functions b)))
+unfoldable pub limit_refusal : List Function → Option LoadFault
+limit_refusal functions = or_later (above kind.Functions 16384 (length functions)) (above kind.Code 524288 (code_by functions))
 
--- by splitting and what follows it
-unfoldable pub function_refusal : List ℕ → Option LoadFault
-function_refusal b = or_later (by_split (split_refusal (symbols_of b) (sections_of b) (entry_of b))) (limit_refusal b)
+-- by splitting, and what follows it
+unfoldable pub function_refusal : List Symbol → List Section → ℕ → Option LoadFault
+function_refusal symbols sections entry =
+    or_later (by_split (split_refusal symbols sections entry)) (limit_refusal (functions_of symbols sections entry))
 
--- by the mapped bytes and what follows them
-unfoldable pub mapped_refusal : List ℕ → Option LoadFault
-mapped_refusal b = or_later (above kind.Mapped 67108864 (mapped_by (segments_of b))) (function_refusal b)
-
--- by the rules on symbols and what follows them
+-- by the rules on symbols, and what follows them
 unfoldable pub symbol_refusal : List ℕ → Option LoadFault
-symbol_refusal b = or_later (by_rule (first_failing symbol_rules b)) (mapped_refusal b)
+symbol_refusal b =
+    or_later (by_rule (first_failing symbol_rules b))
+    (or_later (above kind.Mapped 67108864 (mapped_by (segments_of b))) (function_refusal (symbols_of b) (sections_of b) (entry_of b)))
+
+-- these are the tables and the functions of the file
+pub record IsAccepted (b : List ℕ) (file : AcceptedFile) : Type 0 where
+  pub tables : IsReadFrom file.elf b
+  pub functions : file.functions ≡ file_functions b
