@@ -16,10 +16,10 @@ use Rattle.sh_types.specs.Copy.{saves, restores}
 use Rattle.sh_types.specs.Decoding.{made}
 use Rattle.sh_types.specs.Fine.{SiteFits}
 use Rattle.sh_types.specs.Frame.{frame, Move, Loses, Keeps, move_of, shift_of, IsLoose, dropped, MayDrop, Shifted, To, Anew, AfterMove, Follows}
-use Rattle.sh_types.specs.Image.{sizes_of, row_at}
+use Rattle.sh_types.specs.Image.{sizes_of, row_at, number_of}
 use Rattle.sh_types.specs.Instruction.{row_of}
 use Rattle.sh_types.specs.Kind.{framed_kind, plain_kind, site_kind}
-use Rattle.sh_types.specs.Thin.{computes, is_addi, is_sb, is_ecall, is_jal, is_plain, moves_sp, is_call, is_entry_instr, callee_of, jump_target, number_of, call_site, instr_site, small_depth, state_behind, entered}
+use Rattle.sh_types.specs.Thin.{computes, is_addi, is_sb, is_ecall, is_jal, is_plain, moves_sp, is_call, is_entry_instr, callee_of, jump_target, call_site, instr_site, small_depth, state_behind, entered}
 use Rattle.sh_types.specs.Unmoved.{next_of}
 use Rattle.thin_law.proofs.States.{IsOpen, plain_parts, plain_state, return_instr, Shift, Back, New, shifted}
 

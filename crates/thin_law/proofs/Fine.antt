@@ -1,7 +1,7 @@
 -- The image of a thin file is fine.
 use Rattle.std.proofs.Common.{◌≡◌, ◌⊎◌, inl, inr, ℕ, zero, suc, ◌+◌, ◌*◌, ◌/◌, ◌%◌, ◌<◌, ◌≤◌, Bool, true, false, Option, Some, None, List, [], ◌∷◌, length, get_or, refl, sym, ap, ◌∙◌, subst, arith}
-use Rattle.std.specs.Prelude.{◌==◌, replicate, slice_get, slice_index, slice_index_or, if◌then◌else◌}
-use Rattle.std.proofs.lemmas.Bool.{and_parts, eqb-true, cases_Bool, cases_lt}
+use Rattle.std.specs.Prelude.{◌==◌, ◌&&◌, is_none, replicate, slice_get, slice_index, slice_index_or, if◌then◌else◌}
+use Rattle.std.proofs.lemmas.Bool.{eqb-true, cases_Bool, cases_lt}
 use Rattle.std.proofs.lemmas.Bool.Decides.{nat_tests}
 use Rattle.sh_types.specs.declared.code.FrameState.{FrameState}
 use Rattle.sh_types.specs.declared.code.Image.{Image}
@@ -10,19 +10,21 @@ use Rattle.sh_types.specs.declared.code.Region.{Region}
 use Rattle.sh_types.specs.declared.code.Site.{Site}
 use Rattle.sh_types.specs.declared.code.Site.TheVariants.{Plain}
 use Rattle.sh_types.specs.declared.instructions.Instr.{Instr}
+use Rattle.sh_types.specs.declared.refusals.LoadFault.{LoadFault}
 use Rattle.sh_types.specs.Decoding.{decoded}
-use Rattle.sh_types.specs.Elf.{entry_of}
+use Rattle.sh_types.specs.Accepted.{Accepts, is_accepted, loaded_image, refusal_of}
+use Rattle.sh_types.specs.Coded.{IsCoded}
 use Rattle.sh_types.specs.Fine.{SiteFits, IsFine}
 use Rattle.sh_types.specs.Frame.{IsState, Follows}
-use Rattle.sh_types.specs.Image.{sizes_of, no_rows, row_in, row_at, site_at, word_at, first_stack, stack_start, stack_end}
+use Rattle.sh_types.specs.Image.{sizes_of, starts_of, no_rows, row_in, row_at, site_at, word_at, first_stack, stack_start, stack_end}
 use Rattle.sh_types.specs.Kind.{Past, word_kind, kind_at}
 use Rattle.sh_types.specs.Place.{pair, IsPair}
-use Rattle.sh_types.specs.Thin.{is_plain_word, are_entry_words, are_plain_words, is_thin_function, word_site, sites_from, states_from, word_behind, entered, starts_of, has_thin_code, thin_functions, is_thin, image_of, thin_image}
+use Rattle.sh_types.specs.Thin.{is_plain_word, are_entry_words, are_plain_words, is_thin_function, word_site, sites_from, states_from, word_behind, entered, entry_home, is_thin, classified, thin_image}
 use Rattle.sh_types.specs.Unmoved.{next_of}
 use Rattle.thin_law.proofs.Words.{IsEntryWord, entry_word, IsOtherWord, other_word}
 use Rattle.thin_law.proofs.States.{IsOpen, open_state, entered_open, state_first, state_next, state_within, state_open, state_entered, return_instr, return_decoded}
 use Rattle.thin_law.proofs.Cases.{Fits, plain_fits, return_fits, entry_fits}
-use Rattle.thin_law.proofs.Images.{IsThinFunction, IsThinImage, code_image}
+use Rattle.thin_law.proofs.Images.{IsThinFunction, IsThinImage, thin_code}
 
 -- ---- rows
 
@@ -205,19 +207,23 @@ module _ (image : Image) (starts : List ℕ) (entry : ℕ) (thin : IsThinImage i
 
 -- ---- the file
 
-code_of : (b : List ℕ) → is_thin b ≡ true → has_thin_code b (thin_functions b) ≡ true
-unfolding is_thin
-code_of b t = (and_parts _ (has_thin_code b (thin_functions b)) t).1
-
 same_image : (a b : Image) → Some a ≡ Some b → a ≡ b
 same_image a b e = cc
 
-pub thin_fine : (b : List ℕ) (image : Image) → thin_image b ≡ Some image → IsFine image
-unfolding thin_image
-thin_fine b image e = by (is_thin b) refl e
+accepts : (b : List ℕ) → is_accepted b ≡ true → Accepts b
+accepts b t = by (refusal_of b) t
   where
-    by : (t : Bool) → is_thin b ≡ t → (if t then Some (image_of b (thin_functions b)) else None) ≡ Some image → IsFine image
-    by true t e =
-        let thin = code_image b (thin_functions b) (code_of b t) in
-        subst IsFine (same_image _ image e) (is_fine (image_of b (thin_functions b)) (starts_of (thin_functions b)) (entry_of b) thin)
-    by false t e = absurd (cc)
+    by : (o : Option LoadFault) → is_none o ≡ true → o ≡ None
+    by None t = refl
+    by (Some refusal) t = absurd (cc)
+
+pub thin_fine : ((b : List ℕ) → Accepts b → IsCoded (loaded_image b)) → (b : List ℕ) (image : Image) → thin_image b ≡ Some image → IsFine image
+unfolding thin_image
+thin_fine coded b image e = by (is_accepted b) (is_thin (loaded_image b)) refl refl e
+  where
+    by : (s t : Bool) → is_accepted b ≡ s → is_thin (loaded_image b) ≡ t → (if s && t then Some (classified (loaded_image b)) else None) ≡ Some image → IsFine image
+    by true true a t e =
+        subst IsFine (same_image (classified (loaded_image b)) image e)
+        (is_fine (classified (loaded_image b)) (starts_of (loaded_image b).functions) (entry_home (loaded_image b)) (thin_code (loaded_image b) (coded b (accepts b a)) t))
+    by true false a t e = absurd (cc)
+    by false t a q e = absurd (cc)

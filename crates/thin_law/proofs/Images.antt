@@ -1,17 +1,15 @@
--- The parts of a thin file's image.
-use Rattle.std.proofs.Common.{◌≡◌, inl, inr, ℕ, zero, suc, ◌+◌, ◌-◌, ◌*◌, ◌/◌, ◌%◌, ◌<◌, ◌≤◌, Bool, true, false, Option, Some, None, List, [], ◌∷◌, length, get_or, refl, sym, ap, ◌∙◌, arith}
-use Rattle.std.specs.Prelude.{◌==◌, nat_lt, nat_le, is_some, unwrap_or, map, slice_index, slice_index_or, if◌then◌else◌}
+-- The parts of a thin image, with its classes and frames.
+use Rattle.std.proofs.Common.{◌≡◌, inl, inr, ℕ, zero, suc, ◌+◌, ◌*◌, ◌%◌, ◌<◌, ◌≤◌, Bool, true, Some, List, [], ◌∷◌, length, get_or, sym, ap, ◌∙◌, arith, refl}
+use Rattle.std.specs.Prelude.{◌==◌, map, slice_index, slice_index_or, if◌then◌else◌, false}
 use Rattle.std.specs.List.{list_all, position_from, zip}
 use Rattle.std.proofs.lemmas.Bool.{and_parts, eqb-true, cases_lt}
-use Rattle.std.proofs.lemmas.Bool.Decides.{nat_tests}
 use Rattle.std.proofs.lemmas.List.{get_or-map, get_or_past, length-map}
 use Rattle.sh_types.specs.declared.code.Function.{Function}
 use Rattle.sh_types.specs.declared.code.FrameTable.{FrameTable}
 use Rattle.sh_types.specs.declared.code.Image.{Image}
-use Rattle.sh_types.specs.declared.elf.RawSymbol.{RawSymbol}
-use Rattle.sh_types.specs.Elf.{number_at, places, entry_of}
-use Rattle.sh_types.specs.Image.{sizes_of, no_rows, first_stack}
-use Rattle.sh_types.specs.Thin.{follow, starts_of, words_of, code_size, number_of, function_of, sites_from, frames_of, states_from, entered, is_thin_function, are_thin_functions, are_entered, has_thin_code, image_of}
+use Rattle.sh_types.specs.Coded.{IsCoded}
+use Rattle.sh_types.specs.Image.{sizes_of, starts_of, number_of, no_rows, first_stack}
+use Rattle.sh_types.specs.Thin.{sites_from, frames_of, states_from, entered, is_thin_function, are_thin_functions, entry_home, is_thin, classified}
 use Rattle.thin_law.proofs.Cases.{OthersCalled}
 
 -- ---- what is to be known of the image
@@ -30,60 +28,6 @@ pub record IsThinImage (image : Image) (starts : List ℕ) (entry : ℕ) : Type 
   pub beyond : (f : ℕ) → length (sizes_of image) ≤ f → (slice_index_or image.frames f no_rows).rows ≡ []
   pub whole : (f : ℕ) → slice_index (sizes_of image) f % 4 ≡ 0
   pub regions : image.regions ≡ first_stack ∷ []
-
--- ---- functions that lie one behind the other
-
-no_symbol : RawSymbol
-no_symbol = record { name = 0; kind = 0; section = 0; value = 0; size = 0 }
-
--- the parts of the test on the first function
-record Leads (start : ℕ) (f : RawSymbol) : Type 0 where
-  at : f.value ≡ start
-  some : 0 < f.size
-  whole : f.size % 4 ≡ 0
-
-leads : (start end : ℕ) (f : RawSymbol) (fs : List RawSymbol) → follow start end (f ∷ fs) ≡ true → Leads start f × (follow (start + f.size) end fs ≡ true)
-leads start end f fs h =
-    let parts = and_parts _ (follow (start + f.size) end fs) h in
-    let front = and_parts _ (f.size % 4 == 0) parts.0 in
-    let first = and_parts (f.value == start) (nat_lt 0 f.size) front.0 in
-    (record { at = grind (arith, nat_tests, first.0); some = grind (arith, nat_tests, first.1); whole = grind (arith, nat_tests, front.1) }, parts.1)
-
-whole_at : (start end : ℕ) (fs : List RawSymbol) → follow start end fs ≡ true → (f : ℕ) → (get_or fs f no_symbol).size % 4 ≡ 0
-unfolding no_symbol
-whole_at start end [] h f = refl
-whole_at start end (s ∷ fs) h zero = (leads start end s fs h).0.whole
-whole_at start end (s ∷ fs) h (suc f) = whole_at (start + s.size) end fs (leads start end s fs h).1 f
-
--- no function starts below the start of the first
-above : (start end : ℕ) (fs : List RawSymbol) → follow start end fs ≡ true → (j : ℕ) → j < length fs → start ≤ get_or (starts_of fs) j 0
-above start end [] h j l = absurd (omega arith)
-above start end (f ∷ fs) h zero l = let parts = leads start end f fs h in omega (arith, parts.0.at)
-above start end (f ∷ fs) h (suc j) l =
-    let parts = leads start end f fs h in
-    let rest = above (start + f.size) end fs parts.1 j (omega arith) in
-    omega (arith, rest)
-
-rise : (start end : ℕ) (fs : List RawSymbol) → follow start end fs ≡ true → (i j : ℕ) → i < j → j < length fs → get_or (starts_of fs) i 0 < get_or (starts_of fs) j 0
-rise start end [] h i j l m = absurd (omega arith)
-rise start end (f ∷ fs) h i zero l m = absurd (omega arith)
-rise start end (f ∷ fs) h zero (suc j) l m =
-    let parts = leads start end f fs h in
-    let rest = above (start + f.size) end fs parts.1 j (omega arith) in
-    omega (arith, parts.0.at, parts.0.some, rest)
-rise start end (f ∷ fs) h (suc i) (suc j) l m =
-    let parts = leads start end f fs h in
-    rise (start + f.size) end fs parts.1 i j (omega arith) (omega arith)
-
--- so no two start at one address
-one_start : (start end : ℕ) (fs : List RawSymbol) → follow start end fs ≡ true → (i j : ℕ) → i < length fs → j < length fs → get_or (starts_of fs) i 0 ≡ get_or (starts_of fs) j 0 → i ≡ j
-one_start start end fs h i j l m e = elim (cases_lt i j) [
-  | inl less ↦ let r = rise start end fs h i j less m in absurd (omega (arith, r))
-  | inr more ↦ elim (cases_lt j i) [
-    | inl less ↦ let r = rise start end fs h j i less l in absurd (omega (arith, r))
-    | inr same ↦ omega arith
-  ]
-]
 
 -- ---- the number of a function
 
@@ -117,31 +61,7 @@ is_number starts address g e =
     let same : g ≡ r.index = omega (arith, r.number) in
     record { below = omega (arith, r.below); start = ap (λ i. get_or starts i 0) same ∙ r.start }
 
-some_number : (o : Option ℕ) → is_some o ≡ true → o ≡ Some (unwrap_or o 0)
-some_number None t = absurd (cc)
-some_number (Some g) t = refl
-
 -- ---- the lists of the image
-
-length-starts : (fs : List RawSymbol) → length (starts_of fs) ≡ length fs
-length-starts fs = length-map fs (λ (f : RawSymbol). f.value)
-
-length-sizes : (fs : List RawSymbol) → length (map (λ (f : Function). f.size) (map function_of fs)) ≡ length fs
-length-sizes fs = length-map (map function_of fs) (λ (f : Function). f.size) ∙ length-map fs function_of
-
-size_at : (fs : List RawSymbol) (f : ℕ) → get_or (map (λ (f : Function). f.size) (map function_of fs)) f 0 ≡ (get_or fs f no_symbol).size
-unfolding no_symbol
-size_at [] f = refl
-size_at (s ∷ fs) zero = refl
-size_at (s ∷ fs) (suc f) = size_at fs f
-
-length-places : (step place n : ℕ) → length (places step place n) ≡ n
-length-places step place zero = refl
-length-places step place (suc n) = let rest = length-places step (place + step) n in omega (arith, rest)
-
-length-words_of : (b : List ℕ) (f : RawSymbol) → length (words_of b f) ≡ f.size / 4
-unfolding words_of
-length-words_of b f = length-map (places 4 (f.value - 0xf000) (f.size / 4)) (number_at 4 b) ∙ length-places 4 (f.value - 0xf000) (f.size / 4)
 
 sites_at : (starts ss : List ℕ) (ws : List (List ℕ)) (f : ℕ) → f < length ss → f < length ws → get_or (map (λ g. sites_from starts g.0 g.1) (zip ss ws)) f [] ≡ sites_from starts (get_or ss f 0) (get_or ws f [])
 sites_at starts [] ws f l m = absurd (omega arith)
@@ -166,82 +86,83 @@ no_rows_at ws f l = ap (λ (t : FrameTable). t.rows) (get_or_past (map frames_of
 
 -- ---- the image
 
--- the parts of the test on the code
-record IsThinCode (b : List ℕ) (fs : List RawSymbol) : Type 0 where
-  follows : follow 0x10000 (0x10000 + code_size b) fs ≡ true
-  enters : is_some (number_of (starts_of fs) (entry_of b)) ≡ true
-  thin : are_thin_functions (starts_of fs) (entry_of b) (map (words_of b) fs) ≡ true
+-- the parts of the test
+record IsThin (i : Image) : Type 0 where
+  regions : length i.regions ≡ 1
+  thin : are_thin_functions (starts_of i.functions) (entry_home i) i.words ≡ true
 
-code_parts : (b : List ℕ) (fs : List RawSymbol) → has_thin_code b fs ≡ true → IsThinCode b fs
-unfolding has_thin_code are_entered
-code_parts b fs h =
-    let last = and_parts _ (are_entered b fs) h in
-    let parts = and_parts (nat_le (length fs) 16384) (follow 0x10000 (0x10000 + code_size b) fs) last.0 in
-    let entry = and_parts (is_some (number_of (starts_of fs) (entry_of b))) (are_thin_functions (starts_of fs) (entry_of b) (map (words_of b) fs)) last.1 in
-    record { follows = parts.1; enters = entry.0; thin = entry.1 }
+thin_parts : (i : Image) → is_thin i ≡ true → IsThin i
+unfolding is_thin
+thin_parts i t =
+    let parts = and_parts (length i.regions == 1) (are_thin_functions (starts_of i.functions) (entry_home i) i.words) t in
+    record { regions = eqb-true (length i.regions) 1 parts.0; thin = parts.1 }
 
-module _ (b : List ℕ) (fs : List RawSymbol) (code : IsThinCode b fs) where
-  enters : IsNumber (starts_of fs) (entry_of b) (image_of b fs).entry
-  unfolding image_of
-  enters = is_number (starts_of fs) (entry_of b) _ (some_number (number_of (starts_of fs) (entry_of b)) code.enters)
+module _ (i : Image) (code : IsCoded i) (test : IsThin i) where
+  many_starts : length (starts_of i.functions) ≡ length i.functions
+  many_starts = length-map i.functions (λ (f : Function). f.home)
 
-  size_is : (f : ℕ) → f < length fs → get_or (map (λ (f : Function). f.size) (map function_of fs)) f 0 ≡ 4 * length (get_or (map (words_of b) fs) f [])
-  size_is f l =
-      let size = size_at fs f in
-      let whole = whole_at 0x10000 (0x10000 + code_size b) fs code.follows f in
-      let words : get_or (map (words_of b) fs) f [] ≡ words_of b (get_or fs f no_symbol) = get_or-map (words_of b) fs f no_symbol [] l in
-      let many : length (get_or (map (words_of b) fs) f []) ≡ (get_or fs f no_symbol).size / 4 = ap length words ∙ length-words_of b (get_or fs f no_symbol) in
-      omega (arith, size, whole, many)
+  many_sizes : length (sizes_of i) ≡ length i.functions
+  unfolding sizes_of
+  many_sizes = length-map i.functions (λ (f : Function). f.size)
 
-  function_is : (f : ℕ) → f < length fs → IsThinFunction (image_of b fs) (starts_of fs) (entry_of b) f (slice_index_or (image_of b fs).words f [])
-  unfolding image_of sizes_of
-  function_is f l =
-      let ss : f < length (starts_of fs) = omega (arith, length-starts fs) in
-      let ws : f < length (map (words_of b) fs) = omega (arith, length-map fs (words_of b)) in
-      record {
-        size = size_is f l;
-        sites = sites_at (starts_of fs) (starts_of fs) (map (words_of b) fs) f ss ws;
-        rows = rows_at (map (words_of b) fs) f ws;
-        thin = thin_at (starts_of fs) (entry_of b) (starts_of fs) (map (words_of b) fs) f code.thin ss ws;
-      }
+  same_sizes : sizes_of (classified i) ≡ sizes_of i
+  unfolding sizes_of classified
+  same_sizes = refl
 
-  length-image : length (sizes_of (image_of b fs)) ≡ length fs
-  unfolding image_of sizes_of
-  length-image = length-sizes fs
+  rise : (j k : ℕ) → j < k → k < length i.functions → slice_index (starts_of i.functions) j < slice_index (starts_of i.functions) k
+  rise j k l m =
+      let apart = code.apart j k l m in
+      let some = code.filled j (omega arith) in
+      omega (arith, apart, some)
 
-  other_called : OthersCalled (image_of b fs) (starts_of fs) (entry_of b)
+  -- so no two start at one address
+  one_start : (j k : ℕ) → j < length i.functions → k < length i.functions → slice_index (starts_of i.functions) j ≡ slice_index (starts_of i.functions) k → j ≡ k
+  one_start j k l m e = elim (cases_lt j k) [
+    | inl less ↦ let r = rise j k less m in absurd (omega (arith, r, e))
+    | inr more ↦ elim (cases_lt k j) [
+      | inl less ↦ let r = rise k j less l in absurd (omega (arith, r, e))
+      | inr same ↦ omega arith
+    ]
+  ]
+
+  other_called : OthersCalled (classified i) (starts_of i.functions) (entry_home i)
+  unfolding classified
   other_called to g ne e =
-      let n = is_number (starts_of fs) to g e in
+      let n = is_number (starts_of i.functions) to g e in
       record {
-        func = omega (arith, n.below, length-starts fs, length-image);
-        other = λ same. ne (sym n.start ∙ (ap (λ i. get_or (starts_of fs) i 0) same ∙ enters.start));
+        func = omega (arith, n.below, many_starts, many_sizes, ap length same_sizes);
+        other = λ same. ne (sym n.start ∙ ap (λ k. slice_index (starts_of i.functions) k) same);
       }
 
-  no_rows_past : (f : ℕ) → length fs ≤ f → (slice_index_or (image_of b fs).frames f no_rows).rows ≡ []
-  unfolding image_of
-  no_rows_past f l = no_rows_at (map (words_of b) fs) f (omega (arith, length-map fs (words_of b)))
+  function_is : (f : ℕ) → f < length i.functions → IsThinFunction (classified i) (starts_of i.functions) (entry_home i) f (slice_index_or i.words f [])
+  unfolding classified
+  function_is f l =
+      let ss : f < length (starts_of i.functions) = omega (arith, many_starts) in
+      let ws : f < length i.words = omega (arith, code.many) in
+      record {
+        size = ap (λ sizes. slice_index sizes f) same_sizes ∙ sym (code.words f l);
+        sites = sites_at (starts_of i.functions) (starts_of i.functions) i.words f ss ws;
+        rows = rows_at i.words f ws;
+        thin = thin_at (starts_of i.functions) (entry_home i) (starts_of i.functions) i.words f test.thin ss ws;
+      }
 
-  whole_sizes : (f : ℕ) → slice_index (sizes_of (image_of b fs)) f % 4 ≡ 0
-  unfolding image_of sizes_of
-  whole_sizes f = ap (λ n. n % 4) (size_at fs f) ∙ whole_at 0x10000 (0x10000 + code_size b) fs code.follows f
+  no_rows_past : (f : ℕ) → length i.functions ≤ f → (slice_index_or (classified i).frames f no_rows).rows ≡ []
+  unfolding classified
+  no_rows_past f l = no_rows_at i.words f (omega (arith, code.many))
 
-  region_is : (image_of b fs).regions ≡ first_stack ∷ []
-  unfolding image_of
-  region_is = refl
-
-  is_thin_image : IsThinImage (image_of b fs) (starts_of fs) (entry_of b)
+  is_thin_image : IsThinImage (classified i) (starts_of i.functions) (entry_home i)
+  unfolding classified
   is_thin_image =
-      let many = length-image in
-      let starts = length-starts fs in
+      let many : length (sizes_of (classified i)) ≡ length i.functions = ap length same_sizes ∙ many_sizes in
       record {
-        entry_in = omega (arith, enters.below, many, starts);
-        entered_at = λ f l e. one_start 0x10000 (0x10000 + code_size b) fs code.follows f (image_of b fs).entry (omega (arith, many)) (omega (arith, enters.below, starts)) (e ∙ sym enters.start);
+        entry_in = omega (arith, code.entry, many);
+        entered_at = λ f l e. one_start f i.entry (omega (arith, l, many)) code.entry e;
         others = other_called;
-        each = λ f l. function_is f (omega (arith, many));
-        beyond = λ f l. no_rows_past f (omega (arith, many));
-        whole = whole_sizes;
-        regions = region_is;
+        each = λ f l. function_is f (omega (arith, l, many));
+        beyond = λ f l. no_rows_past f (omega (arith, l, many));
+        whole = λ f. ap (λ sizes. slice_index sizes f % 4) same_sizes ∙ code.whole f;
+        regions = code.stack test.regions;
       }
 
-pub code_image : (b : List ℕ) (fs : List RawSymbol) → has_thin_code b fs ≡ true → IsThinImage (image_of b fs) (starts_of fs) (entry_of b)
-code_image b fs h = is_thin_image b fs (code_parts b fs h)
+pub thin_code : (i : Image) → IsCoded i → is_thin i ≡ true → IsThinImage (classified i) (starts_of i.functions) (entry_home i)
+thin_code i code t = is_thin_image i code (thin_parts i t)

@@ -6,7 +6,11 @@ ghost use Rattle.sh_types.specs.declared.code.Image.{Image};
 ghost use Rattle.sh_types.specs.Fine.{IsFine};
 ghost use Rattle.sh_types.specs.Thin.{thin_image};
 
+use load_law::accepted_images_are_coded;
+
 /// Words, classes and frames of a thin file's image fit each other.
 pub fn thin_images_are_fine()
     ensures fine { (file : List ℕ) (image : Image) → thin_image file ≡ Some image → IsFine image }
-{}
+{
+    accepted_images_are_coded();
+}
