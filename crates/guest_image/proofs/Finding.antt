@@ -1,8 +1,8 @@
 -- Sections in order: the one that an address lies in, and those that start in a range.
-use Rattle.std.proofs.Common.{◌≡◌, ℕ, zero, suc, ◌+◌, ◌-◌, ◌<◌, ◌≤◌, Bool, true, false, cond, ◌&&◌, All, List, [], ◌∷◌, length, get_or, take, drop, refl, sym, ap, ◌∙◌, subst, arith, inl, inr}
-use Rattle.std.specs.Prelude.{nat_le, nat_lt, filter, find, unwrap_or, Option, Some, None}
+use Rattle.std.proofs.Common.{◌≡◌, ℕ, zero, suc, ◌+◌, ◌-◌, ◌<◌, ◌≤◌, Bool, true, false, cond, ◌&&◌, All, List, [], ◌∷◌, length, get_or, take, drop, refl, sym, ap, ◌∙◌, arith, inl, inr}
+use Rattle.std.specs.Prelude.{nat_le, nat_lt, filter, find, unwrap_or, Some, None}
 use Rattle.std.specs.List.Sorted.{IsNonDecreasingBy}
-use Rattle.std.proofs.lemmas.Bool.{cases_Bool, cases_lt, true≢false, false≢true}
+use Rattle.std.proofs.lemmas.Bool.{cases_Bool, cases_lt, false≢true}
 use Rattle.std.proofs.lemmas.Bool.Decides.{nat_tests}
 use Rattle.std.proofs.lemmas.List.Elements.{All-weaker, filter_passes}
 use Rattle.sh_types.specs.declared.elf.Head.{Head}
@@ -58,8 +58,8 @@ section_is address (h ∷ hs) zero d apart lt below above found =
       | inl t ↦ ap (λ b. unwrap_or (cond b (Some h) (find (is_inside address) hs)) no_head) t
       | inr f ↦
           let none : section_with (h ∷ hs) address ≡ no_head =
-            ap (λ b. unwrap_or (cond b (Some h) (find (is_inside address) hs)) no_head) f
-            ∙ ap (λ o. unwrap_or o no_head) (none_above address hs (λ k d le lt. above (suc k) d (omega arith) (omega arith))) in
+          ap (λ b. unwrap_or (cond b (Some h) (find (is_inside address) hs)) no_head) f
+          ∙ ap (λ o. unwrap_or o no_head) (none_above address hs (λ k d le lt. above (suc k) d (omega arith) (omega arith))) in
           absurd (false≢true (sym (nothing_inside address) ∙ sym (ap (is_inside address) none) ∙ found))
     ]
 section_is address (h ∷ []) (suc i) d apart lt below above found = absurd (omega (arith, lt))
@@ -68,7 +68,7 @@ section_is address (h ∷ x ∷ hs) (suc i) d apart lt below above found =
     let ends = apart 0 1 x (omega arith) (omega arith) in
     let out = behind_not address h (omega (arith, starts, ends)) in
     let same : section_with (h ∷ x ∷ hs) address ≡ section_with (x ∷ hs) address =
-      ap (λ b. unwrap_or (cond b (Some h) (find (is_inside address) (x ∷ hs))) no_head) out in
+    ap (λ b. unwrap_or (cond b (Some h) (find (is_inside address) (x ∷ hs))) no_head) out in
     same
     ∙ section_is address (x ∷ hs) i d (λ j k d l m. apart (suc j) (suc k) d (omega arith) (omega arith)) (omega (arith, lt))
     (λ k d l. below (suc k) d (omega arith)) (λ k d l m. above (suc k) d (omega arith) (omega arith))
@@ -115,8 +115,8 @@ part_is low high (h ∷ hs) zero zero le a b c d =
 part_is low high (h ∷ hs) zero (suc j) le a b c d =
     let yes : starts_in low high h ≡ true = grind (arith, nat_tests, b 0 h (omega arith) (omega arith), c 0 h (omega arith)) in
     let rest =
-      part_is low high hs zero j le (λ k e l. absurd (omega arith)) (λ k e l m. b (suc k) e (omega arith) (omega arith))
-      (λ k e l. c (suc k) e (omega arith)) (λ k e l m. d (suc k) e (omega arith) (omega arith)) in
+    part_is low high hs zero j le (λ k e l. absurd (omega arith)) (λ k e l m. b (suc k) e (omega arith) (omega arith))
+    (λ k e l. c (suc k) e (omega arith)) (λ k e l m. d (suc k) e (omega arith) (omega arith)) in
     let all : suc j - 0 ≡ suc j = omega arith in
     let less : j ≡ j - 0 = omega arith in
     ap (λ n. take n (h ∷ hs)) all ∙ ap (λ t. h ∷ t) (ap (λ n. take n hs) less ∙ rest)

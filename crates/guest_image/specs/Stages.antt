@@ -1,5 +1,5 @@
 -- The refusals of a file in parts, and what a step of loading tells. This project's own.
-use Rattle.std.specs.Prelude.{◌≡◌, ℕ, List, length, Option, Some, None, Result, Ok, Err}
+use Rattle.std.specs.Prelude.{◌≡◌, ◌≤◌, ℕ, List, length, Option, Some, None, Result, Ok, Err}
 use Rattle.sh_types.specs.declared.code.Function.{Function}
 use Rattle.sh_types.specs.declared.elf.Section.{Section}
 use Rattle.sh_types.specs.declared.elf.Symbol.{Symbol}
@@ -11,7 +11,7 @@ use Rattle.sh_types.specs.declared.refusals.LoadFault.TheVariants as load
 use Rattle.sh_types.specs.declared.refusals.SplitFault.{SplitFault}
 use Rattle.sh_types.specs.declared.refusals.SplitFault.TheVariants as split
 use Rattle.guest_image.specs.declared.accepted.AcceptedFile.{AcceptedFile}
-use Rattle.sh_types.specs.Accepted.{above, by_rule, by_split, code_by, file_functions, mapped_by, or_later}
+use Rattle.sh_types.specs.Accepted.{above, by_rule, by_split, code_by, mapped_by, or_later}
 use Rattle.sh_types.specs.Elf.{entry_of, sections_of, segments_of, symbols_of}
 use Rattle.sh_types.specs.ElfRules.{IsReadFrom, first_failing, symbol_rules}
 use Rattle.sh_types.specs.Splitting.{split_refusal, functions_of}
@@ -57,7 +57,15 @@ symbol_refusal b =
     or_later (by_rule (first_failing symbol_rules b))
     (or_later (above kind.Mapped 67108864 (mapped_by (segments_of b))) (function_refusal (symbols_of b) (sections_of b) (entry_of b)))
 
+-- ---- what is accepted
+
+-- these are the functions that symbols, sections and the entry give; splitting refuses none, and they are few
+pub record AreFunctions (symbols : List Symbol) (sections : List Section) (entry : ℕ) (functions : List Function) : Type 0 where
+  pub split : split_refusal symbols sections entry ≡ None
+  pub are : functions ≡ functions_of symbols sections entry
+  pub few : length functions ≤ 16384
+
 -- these are the tables and the functions of the file
 pub record IsAccepted (b : List ℕ) (file : AcceptedFile) : Type 0 where
   pub tables : IsReadFrom file.elf b
-  pub functions : file.functions ≡ file_functions b
+  pub functions : AreFunctions (symbols_of b) (sections_of b) (entry_of b) file.functions

@@ -1,11 +1,11 @@
 //! The order in which a file is refused, and what an accepted file gives.
 ghost use Rattle.std.specs.Prelude.{◌≡◌, ◌≤◌, All, IsTrue, None, length};
 ghost use Rattle.std.specs.List.{list_any};
-ghost use Rattle.sh_types.specs.Accepted.{by_rule, by_split, file_functions, refusal_of};
-ghost use Rattle.sh_types.specs.Elf.{symbols_of};
+ghost use Rattle.sh_types.specs.Accepted.{by_rule, by_split, refusal_of};
+ghost use Rattle.sh_types.specs.Elf.{entry_of, sections_of, symbols_of};
 ghost use Rattle.sh_types.specs.ElfRules.{IsReadFrom, first_failing, runs_at, symbol_rules, table_rules};
 ghost use Rattle.sh_types.specs.Splitting.{IsBounded, functions_of, split_refusal};
-ghost use Rattle.guest_image.specs.Stages.{IsAccepted, Passes, elf_fault, function_refusal, limit_refusal, split_fault, symbol_refusal};
+ghost use Rattle.guest_image.specs.Stages.{AreFunctions, IsAccepted, Passes, elf_fault, function_refusal, limit_refusal, split_fault, symbol_refusal};
 
 use crate::limits::{limited_code, limited_functions, limited_memory};
 use elf_read::read_elf;
@@ -60,7 +60,7 @@ fn split_functions(
 ) -> Result<Items<Function>, LoadFault>
     requires bounded { All IsBounded elf.now.sections }
     requires entry { IsTrue (list_any (runs_at elf.now.entry) elf.now.sections) }
-    ensures { Passes result (by_split (split_refusal symbols.now elf.now.sections elf.now.entry)) (λ found. found ≡ functions_of symbols.now elf.now.sections elf.now.entry) }
+    ensures { Passes result (by_split (split_refusal symbols.now elf.now.sections elf.now.entry)) (λ found. (split_refusal symbols.now elf.now.sections elf.now.entry ≡ None) × (found ≡ functions_of symbols.now elf.now.sections elf.now.entry)) }
 {
     split(alloc, symbols, &elf.sections, elf.entry).map_err(split_fault)
 }
@@ -82,7 +82,7 @@ fn few_functions(
 ) -> Result<Items<Function>, LoadFault>
     requires bounded { All IsBounded elf.now.sections }
     requires entry { IsTrue (list_any (runs_at elf.now.entry) elf.now.sections) }
-    ensures { Passes result (function_refusal symbols.now elf.now.sections elf.now.entry) (λ found. found ≡ functions_of symbols.now elf.now.sections elf.now.entry) }
+    ensures { Passes result (function_refusal symbols.now elf.now.sections elf.now.entry) (AreFunctions symbols.now elf.now.sections elf.now.entry) }
 {
     let functions = split_functions(alloc, elf, symbols)?;
     within_limits(functions.as_slice())?;
@@ -92,18 +92,17 @@ fn few_functions(
 #[tactic(auto, unfolding(crate::specs::Stages::symbol_refusal))]
 fn functions_of(alloc: Global, bytes: &[u8], elf: &Elf) -> Result<Items<Function>, LoadFault>
     requires { IsReadFrom elf.now bytes.now }
-    ensures { Passes result (symbol_refusal bytes.now) (λ found. found ≡ file_functions bytes.now) }
+    ensures { Passes result (symbol_refusal bytes.now) (AreFunctions (symbols_of bytes.now) (sections_of bytes.now) (entry_of bytes.now)) }
 {
     let symbols = named_symbols(alloc, bytes, elf)?;
-    segments_lie_in_files()?;
+    segments_lie_in_files();
     limited_memory(elf.segments.as_slice())?;
-    sections_are_bounded()?;
-    entries_lie_in_code()?;
+    sections_are_bounded();
+    entries_lie_in_code();
     few_functions(alloc, elf, &symbols)
 }
 
 /// The tables and functions of an accepted file, or the first refusal.
-
 pub fn accepted(alloc: Global, bytes: &[u8]) -> Result<AcceptedFile, LoadFault>
     ensures { Passes result (refusal_of bytes.now) (IsAccepted bytes.now) }
 {

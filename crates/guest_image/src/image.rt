@@ -1,6 +1,6 @@
 //! The image of an accepted file.
 ghost use Rattle.std.specs.Prelude.{◌≡◌, ◌≤◌, IfOk, None, length, unwrap_or};
-ghost use Rattle.sh_types.specs.Accepted.{Accepts, codes_in_order, file_functions, file_regions, filled_in_order, loaded_image};
+ghost use Rattle.sh_types.specs.Accepted.{codes_in_order, file_functions, file_regions, filled_in_order, loaded_image};
 ghost use Rattle.sh_types.specs.ElfRules.{IsReadFrom};
 ghost use Rattle.sh_types.specs.Image.{number_of, starts_of};
 ghost use Rattle.guest_image.specs.Order.{AreApart, EndsLow};
@@ -40,21 +40,20 @@ fn file_regions(
     requires apart { AreApart codes.now }
     ensures { IfOk result (λ regions. regions.items ≡ file_regions bytes.now) }
 {
-    segments_lie_in_files()?;
-    sections_are_bounded()?;
+    segments_lie_in_files();
+    sections_are_bounded();
     let segments = filled_in_order(alloc, elf.segments.as_slice())?;
     all_regions(alloc, bytes, codes, &segments)
 }
 
 /// The image of an accepted file.
 pub fn image_of(alloc: Global, bytes: &[u8], file: AcceptedFile) -> Result<Image, AllocError>
-    requires read { IsAccepted bytes.now file }
-    requires accepted { Accepts bytes.now }
+    requires { IsAccepted bytes.now file }
     ensures { IfOk result (λ image. image ≡ loaded_image bytes.now) }
 {
     let AcceptedFile { elf, functions } = file;
-    codes_are_apart()?;
-    function_words_lie_in_files()?;
+    codes_are_apart();
+    function_words_lie_in_files();
     let codes = codes_in_order(alloc, elf.heads.as_slice())?;
     let words = all_words(alloc, bytes, &codes, functions.as_slice())?;
     let regions = file_regions(alloc, bytes, &elf, &codes)?;

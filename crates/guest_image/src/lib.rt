@@ -1,4 +1,7 @@
-//! The image of an accepted file, or its first refusal.
+//! The image of an accepted file, or its first refusal. What is accepted, and what the image is, stands in the
+//! definitions `refusal_of` and `loaded_image` of sh_types. The rules of the file are tested by `elf_read` and
+//! `elf_symbols`, those on functions by `fn_split`; here they are put in their order, with the limits between them, and
+//! the words of functions and the readable bytes are taken from the file.
 #![tactic(auto)]
 
 mod accepted;
@@ -10,3 +13,6 @@ mod regions;
 mod words;
 
 pub use load::load_image;
+
+#[cfg(test)]
+mod tests;

@@ -81,7 +81,14 @@ fn add_pieces(
         add_piece(alloc, bytes, segment, from, code.start, regions)?;
         from = code.start + code.size;
     }
-    add_piece(alloc, bytes, segment, from, segment.start + segment.size, regions)
+    add_piece(
+        alloc,
+        bytes,
+        segment,
+        from,
+        segment.start + segment.size,
+        regions,
+    )
 }
 
 /// The parts of the segments that hold no code, by segments and sections in order.

@@ -5,7 +5,7 @@ use Rattle.guest_image.proofs.accepted.functions_of.Goals as goal
 
 pub limited_memory-requires : goal.limited_memory-requires
 limited_memory-requires c =
-    mapped_fits c.args.bytes.now _ (c.as_slice.ensures ∙ c.requires.segments) (c.in_ok-segments_lie_in_files.ensures c.args.bytes.now c.requires.fine) (λ i. (c.type_inv.bytes i).fits)
+    mapped_fits c.args.bytes.now _ (c.as_slice.ensures ∙ c.requires.segments) (c.segments_lie_in_files.ensures c.args.bytes.now c.requires.fine) (λ i. (c.type_inv.bytes i).fits)
 
 pub returns : goal.returns
 returns c =

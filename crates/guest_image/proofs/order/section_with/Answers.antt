@@ -1,4 +1,4 @@
-use Rattle.std.proofs.Common.{◌<◌, ◌-◌, arith, length, sym}
+use Rattle.std.proofs.Common.{◌-◌, arith, sym}
 use Rattle.guest_image.proofs.Finding.{rise, some_below, section_is}
 use Rattle.guest_image.proofs.order.section_with.Goals as goal
 
