@@ -1,0 +1,9 @@
+pub mod Entry
+pub mod Finding
+pub mod Mapped
+pub mod Ordered
+pub mod Places
+pub mod Refusing
+pub mod Rising
+pub mod Stack
+pub mod Whole

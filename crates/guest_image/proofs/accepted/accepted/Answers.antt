@@ -1,0 +1,12 @@
+use Rattle.std.proofs.Common.{rules}
+use Rattle.guest_image.proofs.Refusing.{whole_refusal}
+use Rattle.guest_image.proofs.accepted.accepted.Goals as goal
+
+pub returns-in_err-functions : goal.returns-in_err-functions
+returns-in_err-functions c = rw whole_refusal (search rules)
+
+pub returns : goal.returns
+returns c = rw whole_refusal (search rules)
+
+pub returns-in_err-elf : goal.returns-in_err-elf
+returns-in_err-elf c = rw whole_refusal (search rules)

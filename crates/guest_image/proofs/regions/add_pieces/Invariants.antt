@@ -1,0 +1,6 @@
+use Rattle.std.proofs.Common.{◌≡◌, ◌++◌, ◌≤◌, drop}
+use Rattle.sh_types.specs.Accepted.{pieces}
+use Rattle.guest_image.proofs.regions.add_pieces.Given as goal
+
+abbrev pub invariant-loop-code : goal.invariant-loop-code
+invariant-loop-code l = record { added : l.regions.items ++ pieces l.bytes l.segment l.from (drop l.code-index l.codes) ≡ l.initial.regions.items ++ pieces l.bytes l.segment l.segment.start l.codes; from : l.segment.start ≤ l.from }

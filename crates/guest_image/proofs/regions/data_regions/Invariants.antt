@@ -1,0 +1,6 @@
+use Rattle.std.proofs.Common.{◌≡◌, ◌++◌, drop}
+use Rattle.sh_types.specs.Accepted.{data_regions}
+use Rattle.guest_image.proofs.regions.data_regions.Given as goal
+
+abbrev pub invariant-loop-segment : goal.invariant-loop-segment
+invariant-loop-segment l = l.regions.items ++ data_regions l.bytes l.codes (drop l.segment-index l.segments) ≡ data_regions l.bytes l.codes l.segments

@@ -1,0 +1,16 @@
+-- Sections by rising addresses, and where they start and end. This project's own.
+use Rattle.std.specs.Prelude.{◌+◌, ◌<◌, ◌≤◌, ℕ, List, length, slice_index_or}
+use Rattle.sh_types.specs.declared.elf.Head.{Head}
+
+-- each section ends at or below the start of the next
+abbrev pub AreApart : List Head → Type 0
+AreApart codes =
+    (j k : ℕ) (d : Head) → j < k → k < length codes → (slice_index_or codes j d).start + (slice_index_or codes j d).size ≤ (slice_index_or codes k d).start
+
+-- the section starts at or behind an address
+abbrev pub StartsFrom : ℕ → Head → Type 0
+StartsFrom address h = address ≤ h.start
+
+-- it ends at or below 0x3f000000
+abbrev pub EndsLow : Head → Type 0
+EndsLow h = h.start + h.size ≤ 0x3f000000

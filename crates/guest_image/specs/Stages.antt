@@ -1,0 +1,71 @@
+-- The refusals of a file in parts, and what a step of loading tells. This project's own.
+use Rattle.std.specs.Prelude.{◌≡◌, ◌≤◌, ℕ, List, length, Option, Some, None, Result, Ok, Err}
+use Rattle.sh_types.specs.declared.code.Function.{Function}
+use Rattle.sh_types.specs.declared.elf.Section.{Section}
+use Rattle.sh_types.specs.declared.elf.Symbol.{Symbol}
+use Rattle.sh_types.specs.declared.refusals.ElfFault.{ElfFault}
+use Rattle.sh_types.specs.declared.refusals.ElfFault.TheVariants as elf
+use Rattle.sh_types.specs.declared.refusals.LimitKind.TheVariants as kind
+use Rattle.sh_types.specs.declared.refusals.LoadFault.{LoadFault}
+use Rattle.sh_types.specs.declared.refusals.LoadFault.TheVariants as load
+use Rattle.sh_types.specs.declared.refusals.SplitFault.{SplitFault}
+use Rattle.sh_types.specs.declared.refusals.SplitFault.TheVariants as split
+use Rattle.guest_image.specs.declared.accepted.AcceptedFile.{AcceptedFile}
+use Rattle.sh_types.specs.Accepted.{above, by_rule, by_split, code_by, mapped_by, or_later}
+use Rattle.sh_types.specs.Elf.{entry_of, sections_of, segments_of, symbols_of}
+use Rattle.sh_types.specs.ElfRules.{IsReadFrom, first_failing, symbol_rules}
+use Rattle.sh_types.specs.Splitting.{split_refusal, functions_of}
+
+-- ---- faults of the layers below
+
+abbrev pub elf_fault : ElfFault → LoadFault
+elf_fault elf.NoMemory = load.NoMemory
+elf_fault (elf.Rule rule) = load.Elf rule
+
+abbrev pub split_fault : SplitFault → LoadFault
+split_fault split.NoMemory = load.NoMemory
+split_fault (split.Rule home rule) = load.Split home rule
+
+-- ---- one step
+
+-- the fault is this refusal; want of memory says nothing
+abbrev pub Stops : LoadFault → Option LoadFault → Type 0
+Stops load.NoMemory refusal = Unit {0}
+Stops (load.Elf rule) refusal = refusal ≡ Some (load.Elf rule)
+Stops (load.Limit kind value) refusal = refusal ≡ Some (load.Limit kind value)
+Stops (load.Split home rule) refusal = refusal ≡ Some (load.Split home rule)
+
+-- nothing is refused and P is true of the value, or this is refused
+abbrev pub Passes : {A : Type 0} → Result A LoadFault → Option LoadFault → (A → Type 0) → Type 0
+Passes (Ok value) refusal P = (refusal ≡ None) × P value
+Passes (Err fault) refusal P = Stops fault refusal
+
+-- ---- the refusals from a step on
+
+-- by the limits on functions
+unfoldable pub limit_refusal : List Function → Option LoadFault
+limit_refusal functions = or_later (above kind.Functions 16384 (length functions)) (above kind.Code 524288 (code_by functions))
+
+-- by splitting, and what follows it
+unfoldable pub function_refusal : List Symbol → List Section → ℕ → Option LoadFault
+function_refusal symbols sections entry =
+    or_later (by_split (split_refusal symbols sections entry)) (limit_refusal (functions_of symbols sections entry))
+
+-- by the rules on symbols, and what follows them
+unfoldable pub symbol_refusal : List ℕ → Option LoadFault
+symbol_refusal b =
+    or_later (by_rule (first_failing symbol_rules b))
+    (or_later (above kind.Mapped 67108864 (mapped_by (segments_of b))) (function_refusal (symbols_of b) (sections_of b) (entry_of b)))
+
+-- ---- what is accepted
+
+-- these are the functions that symbols, sections and the entry give; splitting refuses none, and they are few
+pub record AreFunctions (symbols : List Symbol) (sections : List Section) (entry : ℕ) (functions : List Function) : Type 0 where
+  pub split : split_refusal symbols sections entry ≡ None
+  pub are : functions ≡ functions_of symbols sections entry
+  pub few : length functions ≤ 16384
+
+-- these are the tables and the functions of the file
+pub record IsAccepted (b : List ℕ) (file : AcceptedFile) : Type 0 where
+  pub tables : IsReadFrom file.elf b
+  pub functions : AreFunctions (symbols_of b) (sections_of b) (entry_of b) file.functions

@@ -1,0 +1,112 @@
+//! The order in which a file is refused, and what an accepted file gives.
+ghost use Rattle.std.specs.Prelude.{◌≡◌, ◌≤◌, All, IsTrue, None, length};
+ghost use Rattle.std.specs.List.{list_any};
+ghost use Rattle.sh_types.specs.Accepted.{by_rule, by_split, refusal_of};
+ghost use Rattle.sh_types.specs.Elf.{entry_of, sections_of, symbols_of};
+ghost use Rattle.sh_types.specs.ElfRules.{IsReadFrom, first_failing, runs_at, symbol_rules, table_rules};
+ghost use Rattle.sh_types.specs.Splitting.{IsBounded, functions_of, split_refusal};
+ghost use Rattle.guest_image.specs.Stages.{AreFunctions, IsAccepted, Passes, elf_fault, function_refusal, limit_refusal, split_fault, symbol_refusal};
+
+use crate::limits::{limited_code, limited_functions, limited_memory};
+use elf_read::read_elf;
+use elf_symbols::symbols;
+use fn_split::split;
+use load_law::{entries_lie_in_code, sections_are_bounded, segments_lie_in_files};
+use sh_types::{Elf, ElfFault, Function, Items, LoadFault, SplitFault, Symbol};
+use std::alloc::Global;
+
+/// The tables and the functions of an accepted file.
+#[derive(Drop)]
+pub struct AcceptedFile {
+    pub elf: Elf,
+    pub functions: Items<Function>,
+}
+
+fn elf_fault(fault: ElfFault) -> LoadFault
+    ensures { result ≡ elf_fault fault }
+{
+    match fault {
+        ElfFault::NoMemory => LoadFault::NoMemory,
+        ElfFault::Rule { rule } => LoadFault::Elf { rule },
+    }
+}
+
+fn split_fault(fault: SplitFault) -> LoadFault
+    ensures { result ≡ split_fault fault }
+{
+    match fault {
+        SplitFault::NoMemory => LoadFault::NoMemory,
+        SplitFault::Rule { home, rule } => LoadFault::Split { home, rule },
+    }
+}
+
+fn tables(alloc: Global, bytes: &[u8]) -> Result<Elf, LoadFault>
+    ensures { Passes result (by_rule (first_failing table_rules bytes.now)) (λ elf. IsReadFrom elf bytes.now) }
+{
+    read_elf(alloc, bytes).map_err(elf_fault)
+}
+
+fn named_symbols(alloc: Global, bytes: &[u8], elf: &Elf) -> Result<Items<Symbol>, LoadFault>
+    requires { IsReadFrom elf.now bytes.now }
+    ensures { Passes result (by_rule (first_failing symbol_rules bytes.now)) (λ found. found ≡ symbols_of bytes.now) }
+{
+    symbols(alloc, elf, bytes).map_err(elf_fault)
+}
+
+fn split_functions(
+    alloc: Global,
+    elf: &Elf,
+    symbols: &Items<Symbol>,
+) -> Result<Items<Function>, LoadFault>
+    requires bounded { All IsBounded elf.now.sections }
+    requires entry { IsTrue (list_any (runs_at elf.now.entry) elf.now.sections) }
+    ensures { Passes result (by_split (split_refusal symbols.now elf.now.sections elf.now.entry)) (λ found. (split_refusal symbols.now elf.now.sections elf.now.entry ≡ None) × (found ≡ functions_of symbols.now elf.now.sections elf.now.entry)) }
+{
+    split(alloc, symbols, &elf.sections, elf.entry).map_err(split_fault)
+}
+
+#[tactic(auto, unfolding(crate::specs::Stages::limit_refusal))]
+fn within_limits(functions: &[Function]) -> Result<(), LoadFault>
+    ensures { Passes result (limit_refusal functions.now) (λ _. length functions.now ≤ 16384) }
+{
+    limited_functions(functions)?;
+    limited_code(functions)
+}
+
+/// Splits a file into functions, and refuses too many and too large ones.
+#[tactic(auto, unfolding(crate::specs::Stages::function_refusal))]
+fn few_functions(
+    alloc: Global,
+    elf: &Elf,
+    symbols: &Items<Symbol>,
+) -> Result<Items<Function>, LoadFault>
+    requires bounded { All IsBounded elf.now.sections }
+    requires entry { IsTrue (list_any (runs_at elf.now.entry) elf.now.sections) }
+    ensures { Passes result (function_refusal symbols.now elf.now.sections elf.now.entry) (AreFunctions symbols.now elf.now.sections elf.now.entry) }
+{
+    let functions = split_functions(alloc, elf, symbols)?;
+    within_limits(functions.as_slice())?;
+    Ok(functions)
+}
+
+#[tactic(auto, unfolding(crate::specs::Stages::symbol_refusal))]
+fn functions_of(alloc: Global, bytes: &[u8], elf: &Elf) -> Result<Items<Function>, LoadFault>
+    requires { IsReadFrom elf.now bytes.now }
+    ensures { Passes result (symbol_refusal bytes.now) (AreFunctions (symbols_of bytes.now) (sections_of bytes.now) (entry_of bytes.now)) }
+{
+    let symbols = named_symbols(alloc, bytes, elf)?;
+    segments_lie_in_files();
+    limited_memory(elf.segments.as_slice())?;
+    sections_are_bounded();
+    entries_lie_in_code();
+    few_functions(alloc, elf, &symbols)
+}
+
+/// The tables and functions of an accepted file, or the first refusal.
+pub fn accepted(alloc: Global, bytes: &[u8]) -> Result<AcceptedFile, LoadFault>
+    ensures { Passes result (refusal_of bytes.now) (IsAccepted bytes.now) }
+{
+    let elf = tables(alloc, bytes)?;
+    let functions = functions_of(alloc, bytes, &elf)?;
+    Ok(AcceptedFile { elf, functions })
+}

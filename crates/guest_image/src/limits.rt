@@ -1,0 +1,70 @@
+//! What is limited, and the answer where there is more.
+ghost use Rattle.std.specs.Prelude.{◌≡◌, ◌≤◌, ◌<◌, ◌^◌, ⊤, length};
+ghost use Rattle.sh_types.specs.declared.refusals.LimitKind.TheVariants as kind;
+ghost use Rattle.sh_types.specs.Accepted.{above, code_by, mapped_by};
+ghost use Rattle.guest_image.specs.Stages.{Passes};
+
+use sh_types::{Function, LimitKind, LoadFault, Segment};
+
+/// The most bytes of the PT_LOAD segments in memory.
+const MOST_MAPPED: u64 = 67_108_864;
+
+/// The most functions.
+const MOST_FUNCTIONS: u64 = 16_384;
+
+/// The most bytes of functions.
+const MOST_CODE: u64 = 524_288;
+
+fn limited(kind: LimitKind, most: u64, value: u64) -> Result<(), LoadFault>
+    ensures { Passes result (above kind most value) (λ _. ⊤) }
+{
+    if value > most {
+        return Err(LoadFault::Limit { kind, value });
+    }
+    Ok(())
+}
+
+fn mapped_by(segments: &[Segment]) -> u64
+    requires { mapped_by segments.now < 2 ^ 64 }
+    ensures { result ≡ mapped_by segments.now }
+{
+    let mut sum = 0;
+    for segment in segments {
+        sum += segment.size;
+    }
+    sum
+}
+
+/// Refuses more mapped bytes than the limit.
+pub fn limited_memory(segments: &[Segment]) -> Result<(), LoadFault>
+    requires { mapped_by segments.now < 2 ^ 64 }
+    ensures { Passes result (above kind.Mapped 67108864 (mapped_by segments.now)) (λ _. ⊤) }
+{
+    limited(LimitKind::Mapped, MOST_MAPPED, mapped_by(segments))
+}
+
+/// Refuses more functions than the limit.
+pub fn limited_functions(functions: &[Function]) -> Result<(), LoadFault>
+    ensures { Passes result (above kind.Functions 16384 (length functions.now)) (λ _. ⊤) }
+{
+    limited(LimitKind::Functions, MOST_FUNCTIONS, functions.len() as u64)
+}
+
+fn code_by(functions: &[Function]) -> u64
+    requires { length functions.now ≤ 16384 }
+    ensures { result ≡ code_by functions.now }
+{
+    let mut sum = 0;
+    for function in functions {
+        sum += u64::from(function.size);
+    }
+    sum
+}
+
+/// Refuses more bytes of functions than the limit.
+pub fn limited_code(functions: &[Function]) -> Result<(), LoadFault>
+    requires { length functions.now ≤ 16384 }
+    ensures { Passes result (above kind.Code 524288 (code_by functions.now)) (λ _. ⊤) }
+{
+    limited(LimitKind::Code, MOST_CODE, code_by(functions))
+}
