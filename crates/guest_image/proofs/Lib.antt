@@ -7,3 +7,4 @@ pub mod Refusing
 pub mod Rising
 pub mod Stack
 pub mod Whole
+pub mod Accepting
