@@ -1,2 +1,13 @@
-//! The symbols of ELF-64 files, with their names.
+//! The symbols of ELF-64 files, with their names (System V gABI, "Symbol Table" and "String Table").
 #![tactic(auto)]
+
+mod names;
+mod read;
+mod rules;
+mod strings;
+mod table;
+
+pub use read::symbols;
+
+#[cfg(test)]
+mod tests;

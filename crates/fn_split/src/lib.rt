@@ -1,2 +1,14 @@
-//! Functions from symbols, sections and the entry.
+//! Functions from symbols, sections and the entry. The rules are those of `functions_of` and `split_refusal` in the
+//! definitions of sh_types.
 #![tactic(auto)]
+
+mod functions;
+mod joining;
+mod ranges;
+mod refusal;
+mod starts;
+
+pub use functions::split;
+
+#[cfg(test)]
+mod tests;

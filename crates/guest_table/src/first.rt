@@ -4,7 +4,9 @@ ghost use Rattle.std.specs.Prelude.{◌≡◌, Some};
 ghost use Rattle.sh_types.specs.Runnable.{IsRunnable};
 ghost use Rattle.sh_types.specs.Thin.{thin_image};
 
-use crate::elf::{HOME, thin_file};
+use crate::elf::thin_file;
+use crate::read_thin;
+use sample_files::HOME;
 use sh_base::{MemFiles, MemSink};
 use sh_types::{Bytes, End, Event, FetchLog, Fetched, Image, Items, Name, NoMemory};
 use shuf_cli::{Done, serial_command};
@@ -13,7 +15,6 @@ use std::alloc::{AllocError, Global};
 use std::process::Abort;
 use std::test::Fail;
 use std::thread::Threads;
-use thin_image::read_thin;
 use thin_law::thin_images_are_fine;
 
 const SIZES: [u32; 2] = [15, 2];
@@ -70,7 +71,7 @@ fn run_logged(alloc: Global, image: Image, file: Bytes) -> Result<(u64, Vec<Fetc
 fn the_words_that_are_asked_for(rt: HostRuntime) -> Result<(), Fail> {
     let alloc = rt.alloc();
     let file = Bytes::from_vec(thin_file(alloc, HOME, &SIZES, &CODE)?);
-    let read = read_thin(alloc, file.as_slice())?;
+    let read = read_thin(&rt, alloc, file.as_slice())?;
     let image = read.expect(&rt, "the file is thin");
     let (count, asked) = run_logged(alloc, image, file)?;
     assert_eq!(rt; count, 13);
@@ -108,7 +109,7 @@ fn refusal(alloc: Global, image: Image, file: Bytes) -> Result<Option<No>, NoMem
 fn a_hart_that_was_never_started(rt: HostRuntime) -> Result<(), Fail> {
     let alloc = rt.alloc();
     let file = Bytes::from_vec(thin_file(alloc, HOME, &SIZES, &CODE)?);
-    let read = read_thin(alloc, file.as_slice())?;
+    let read = read_thin(&rt, alloc, file.as_slice())?;
     let image = read.expect(&rt, "the file is thin");
     let why = refusal(alloc, image, file)?;
     assert_eq!(rt; why, Some(No::NoHart { hart: 1 }));

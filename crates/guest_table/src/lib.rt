@@ -3,8 +3,10 @@
 #![tactic(auto)]
 
 mod plain;
+mod thin;
 
 pub use plain::{Ran, run_plain};
+pub use thin::read_thin;
 
 #[cfg(test)]
 mod elf;

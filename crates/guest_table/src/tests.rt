@@ -4,15 +4,16 @@ ghost use Rattle.std.specs.Prelude.{◌≡◌, Some};
 ghost use Rattle.sh_types.specs.Runnable.{IsRunnable};
 ghost use Rattle.sh_types.specs.Thin.{thin_image};
 
-use crate::elf::{HOME, thin_file};
-use crate::{Ran, guests as guest, run_plain};
+use crate::elf::thin_file;
+use crate::{Ran, guests as guest, read_thin, run_plain};
 use hart_runner::{Plan, run_built};
+use sample_files::HOME;
 use sh_types::{Bytes, End, Image, NoMemory, Pair, Trap};
 use shuf_machine::{Machine, Origin};
 use std::alloc::{AllocError, Global};
 use std::process::Abort;
 use std::test::Fail;
-use thin_image::read_thin;
+use std::thread::Threads;
 use thin_law::thin_images_are_fine;
 
 /// More instructions than any guest has.
@@ -105,14 +106,15 @@ fn run_image(
 }
 
 /// The same of a file; None where it is not thin.
-fn run_file(
+fn run_file<R: Threads + Sync>(
+    rt: &R,
     alloc: Global,
     file: &[u8],
     seed: u8,
     period: u64,
 ) -> Result<Option<(bool, Ran)>, NoMemory> {
     let file = Bytes::from_slice(alloc, file)?;
-    match read_thin(alloc, file.as_slice()) {
+    match read_thin(rt, alloc, file.as_slice()) {
         Ok(Some(image)) => Ok(Some(run_image(alloc, image, file, seed, period)?)),
         Ok(None) => Ok(None),
         Err(NoMemory) => Err(NoMemory),
@@ -124,7 +126,7 @@ fn is_exit(end: End) -> bool {
 }
 
 /// Compares the machine's run.
-fn expect_machine<R: Abort>(
+fn expect_machine<R: Threads + Sync + Abort>(
     rt: &R,
     alloc: Global,
     file: &[u8],
@@ -132,7 +134,7 @@ fn expect_machine<R: Abort>(
     period: u64,
     want: Want,
 ) -> Result<(), Fail> {
-    let run = run_file(alloc, file, seed, period)?;
+    let run = run_file(rt, alloc, file, seed, period)?;
     let (built, ran) = run.expect(rt, "the file is thin");
     let (end, count) = match want.stops {
         None => (Some(want.end), want.count),
@@ -146,8 +148,13 @@ fn expect_machine<R: Abort>(
 }
 
 /// Compares the plain run.
-fn expect_plain<R: Abort>(rt: &R, alloc: Global, file: &[u8], want: Want) -> Result<(), Fail> {
-    let read = read_thin(alloc, file)?;
+fn expect_plain<R: Threads + Sync + Abort>(
+    rt: &R,
+    alloc: Global,
+    file: &[u8],
+    want: Want,
+) -> Result<(), Fail> {
+    let read = read_thin(rt, alloc, file)?;
     let image = read.expect(rt, "the file is thin");
     let ran = run_plain(alloc, &image, LIMIT)?;
     assert_eq!(rt; ran.end, Some(want.end));
@@ -157,7 +164,7 @@ fn expect_plain<R: Abort>(rt: &R, alloc: Global, file: &[u8], want: Want) -> Res
 }
 
 /// Runs a file both ways, the machine with two seeds.
-fn expect_file<R: Abort>(
+fn expect_file<R: Threads + Sync + Abort>(
     rt: &R,
     alloc: Global,
     file: &[u8],
@@ -170,7 +177,7 @@ fn expect_file<R: Abort>(
 }
 
 /// Runs a guest whose first function is its entry.
-fn expect<R: Abort>(
+fn expect<R: Threads + Sync + Abort>(
     rt: &R,
     alloc: Global,
     sizes: &[u32],
@@ -287,7 +294,7 @@ fn guests_that_no_thin_file_has(rt: HostRuntime) -> Result<(), Fail> {
         straight(alloc, 131_071)?,
     ];
     for file in &files {
-        let read = read_thin(alloc, file)?;
+        let read = read_thin(&rt, alloc, file)?;
         assert!(rt; read.is_none());
     }
     Ok(())

@@ -17,10 +17,3 @@ use Rattle.shuf_cli.specs.Due.{IsLoadDue, IsDue}
 pub image_is : (file : List ℕ) (image : Image) → thin_image file ≡ Some image → image_of file ≡ image
 unfolding image_of
 image_is file image thin = ap image_or_none thin
-
--- what is due for the load of the file that a command names is due for the command
-pub load_is_due : (file_of : Command → List ℕ) → ((name : List ℕ) (opts : Opts) → file_of (Run name opts) ≡ name)
-    → (command : Command) (text seed : List ℕ) (held : Option FileMap) (before now : List FileCall) (r : Result Due NoMemory)
-    → text ≡ file_of command → IfOk r (λ due. IsLoadDue text seed held before now due) → IfOk r (λ due. IsDue (Some command) seed held before now due)
-load_is_due file_of is (Run name opts) text seed held before now r same due =
-    subst (λ (t : List ℕ). IfOk r (λ due. IsLoadDue t seed held before now due)) (same ∙ is name opts) due

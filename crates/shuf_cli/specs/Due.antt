@@ -5,8 +5,12 @@ use Rattle.sh_base.specs.declared.files.FileWord.TheVariants.{Load}
 use Rattle.sh_base.specs.Faults.{fault_count}
 use Rattle.sh_base.specs.Held.{FileMap, Loads}
 use Rattle.sh_types.specs.declared.runs.End.TheVariants.{Exit}
+use Rattle.sh_types.specs.Accepted.{mapped_by, loaded_image, refusal_of}
+use Rattle.sh_types.specs.Elf.{segments_of}
 use Rattle.sh_types.specs.Serial.{Schedule, serial_list}
 use Rattle.sh_types.specs.Thin.{thin_image}
+use Rattle.image_text.specs.Lines.{fault_line}
+use Rattle.image_text.specs.Listing.{listing_of}
 use Rattle.shuf_machine.specs.declared.answers.Origin.{Origin}
 use Rattle.shuf_machine.specs.Past.{Past, guest_of}
 use Rattle.shuf_machine.specs.Run.{image_of}
@@ -14,7 +18,7 @@ use Rattle.hart_runner.specs.Built.{is_built}
 use Rattle.period_report.specs.declared.writer.Form.TheVariants.{Short}
 use Rattle.period_report.specs.Text.{report_text}
 use Rattle.shuf_cli.specs.declared.words.Command.{Command}
-use Rattle.shuf_cli.specs.declared.words.Command.TheVariants.{Run}
+use Rattle.shuf_cli.specs.declared.words.Command.TheVariants.{Run, Check}
 use Rattle.shuf_cli.specs.declared.due.Due.{Due}
 
 -- the most bytes of a file
@@ -61,6 +65,11 @@ schedule = record { period = 100000; quantum = 1000; steps = 100000000 }
 abbrev pub past_of : (file seed : List ℕ) → Past
 past_of file seed = record { origin = origin_of file seed; journal = serial_list (image_of file) schedule }
 
+-- the text that lists the file's image
+abbrev pub listing_due : List ℕ → Due
+listing_due file =
+    record { out = Some (listing_of (loaded_image file) (mapped_by (segments_of file))); report = None; status = 0; end = None; machine = None }
+
 -- the unmoved machine comes to an exit with what is built, and the run is made; or nothing is run
 abbrev pub IsRunDue : (file seed : List ℕ) → Due → Type 0
 IsRunDue file seed due =
@@ -68,19 +77,29 @@ IsRunDue file seed due =
     ((code : ℕ) × ((guest_of (past_of file seed)).end ≡ Some (Exit code)) × (due ≡ exit_due (past_of file seed) code))
     (due ≡ line_due 12 refused_line)
 
+-- the word of the file that a command loads
+abbrev pub file_word : Command → List ℕ
+file_word (Run name opts) = name
+file_word (Check name) = name
+
+-- by an accepted file
+abbrev pub IsAcceptedDue : Command → List ℕ → List ℕ → Due → Type 0
+IsAcceptedDue (Run name opts) file seed due = MatchOption (thin_image file) (due ≡ line_due 12 refused_line) (λ image. IsRunDue file seed due)
+IsAcceptedDue (Check name) file seed due = due ≡ listing_due file
+
 -- by the file that was loaded
-abbrev pub IsFileDue : List ℕ → List ℕ → List ℕ → Due → Type 0
-IsFileDue name file seed due =
-    MatchBool (nat_lt file_limit (length file)) (due ≡ line_due 11 (too_long_line name))
-    (MatchOption (thin_image file) (due ≡ line_due 12 refused_line) (λ image. IsRunDue file seed due))
+abbrev pub IsFileDue : Command → List ℕ → List ℕ → Due → Type 0
+IsFileDue command file seed due =
+    MatchBool (nat_lt file_limit (length file)) (due ≡ line_due 11 (too_long_line (file_word command)))
+    (MatchOption (refusal_of file) (IsAcceptedDue command file seed due) (λ fault. due ≡ line_due 12 (fault_line fault)))
 
 -- the load failed, or it answered this file
-abbrev pub IsLoadDue : List ℕ → List ℕ → Option FileMap → List FileCall → List FileCall → Due → Type 0
-IsLoadDue name seed held before now due =
-    ((fault_count name Load before < fault_count name Load now) × (due ≡ line_due 11 (unreadable_line name)))
-    ⊎ ((file : List ℕ) × Loads held name file_limit file × IsFileDue name file seed due)
+abbrev pub IsLoadDue : Command → List ℕ → Option FileMap → List FileCall → List FileCall → Due → Type 0
+IsLoadDue command seed held before now due =
+    ((fault_count (file_word command) Load before < fault_count (file_word command) Load now) × (due ≡ line_due 11 (unreadable_line (file_word command))))
+    ⊎ ((file : List ℕ) × Loads held (file_word command) file_limit file × IsFileDue command file seed due)
 
 -- what is due, by the command
 abbrev pub IsDue : Option Command → List ℕ → Option FileMap → List FileCall → List FileCall → Due → Type 0
 IsDue None seed held before now due = due ≡ line_due 10 usage_line
-IsDue (Some (Run name opts)) seed held before now due = IsLoadDue name seed held before now due
+IsDue (Some command) seed held before now due = IsLoadDue command seed held before now due

@@ -7,20 +7,25 @@ use Rattle.sh_base.specs.Faults.{Rose, fault_count}
 use Rattle.sh_base.specs.Held.{FileMap}
 use Rattle.sh_base.specs.Written.{Gains}
 use Rattle.sh_types.specs.Pace.{IsPaced, pace_after}
+use Rattle.sh_types.specs.Accepted.{Accepts, mapped_by, loaded_image, refusal_of}
+use Rattle.sh_types.specs.Elf.{segments_of}
 use Rattle.sh_types.specs.Thin.{thin_image}
 use Rattle.sh_types.specs.declared.code.Image.{Image}
+use Rattle.sh_types.specs.declared.refusals.LoadFault.{LoadFault}
 use Rattle.sh_types.specs.declared.runs.End.{End}
 use Rattle.sh_types.specs.declared.runs.End.TheVariants.{Exit}
 use Rattle.shuf_machine.specs.Past.{Past, guest_of}
 use Rattle.shuf_machine.specs.Run.{image_of}
 use Rattle.hart_runner.specs.Built.{is_built}
+use Rattle.image_text.specs.Lines.{fault_line}
+use Rattle.image_text.specs.Listing.{listing_of}
 use Rattle.shuf_cli.specs.declared.words.Command.{Command}
-use Rattle.shuf_cli.specs.declared.words.Command.TheVariants.{Run}
+use Rattle.shuf_cli.specs.declared.words.Command.TheVariants.{Run, Check}
 use Rattle.shuf_cli.specs.declared.words.Opts.{Opts}
 use Rattle.shuf_cli.specs.declared.due.Due.{Due}
 use Rattle.shuf_cli.specs.declared.due.Done.{Done}
 use Rattle.shuf_cli.specs.Answer.{SinkState, CutShort}
-use Rattle.shuf_cli.specs.Due.{IsDue, usage_line, unreadable_line, too_long_line, refused_line, past_of, exit_status, file_limit, report_of}
+use Rattle.shuf_cli.specs.Due.{IsDue, file_word, usage_line, unreadable_line, too_long_line, refused_line, past_of, exit_status, file_limit, report_of}
 
 -- what a call met and left outside: what is held, the faults of files, and the two sinks
 pub record World : Type 0 where
@@ -32,9 +37,17 @@ pub record World : Type 0 where
   pub report : SinkState
   pub report' : SinkState
 
+-- a command that loads this file
+abbrev pub IsOf : Option Command → List ℕ → Type 0
+IsOf command name = (some : Command) × (command ≡ Some some) × (file_word some ≡ name)
+
 -- a run of this file
 abbrev pub IsRunOf : Option Command → List ℕ → Type 0
 IsRunOf command name = (opts : Opts) × (command ≡ Some (Run name opts))
+
+-- a check of this file
+abbrev pub IsCheckOf : Option Command → List ℕ → Type 0
+IsCheckOf command name = command ≡ Some (Check name)
 
 -- the file is held under the name, whole, where it is told
 abbrev pub Holds : Option FileMap → List ℕ → List ℕ → Type 0
@@ -63,7 +76,7 @@ pub record WroteLine (world : World) (line : List ℕ) : Type 0 where
   pub out : world.out' ≡ world.out
   pub report : Gains world.report.written world.report'.written line
 
--- the file is not thin, or the unmoved machine does not come to an exit with what is built; the seed does not matter
+-- the accepted file is not thin, or the unmoved machine does not come to an exit with what is built; the seed does not matter
 abbrev pub IsNotBuilt : List ℕ → Type 0
 IsNotBuilt file = MatchOption (thin_image file) ⊤ (λ image. is_built 100000 image ≡ false)
 
@@ -86,6 +99,21 @@ pub record IsRun (world : World) (seed file : List ℕ) (m : Past) (done : Done)
   pub paced : IsPaced (image_of file) 100000 m.journal
   pub few : (pace_after (image_of file) m.journal).count ≤ 100000000
 
+-- out gained the text that lists the image of the accepted file, and report stands
+pub record IsChecked (world : World) (file : List ℕ) (done : Done) : Type 0 where
+  pub accepted : Accepts file
+  pub status : done.status ≡ 0
+  pub output : Gains world.out.written world.out'.written (listing_of (loaded_image file) (mapped_by (segments_of file)))
+  pub report : world.report' ≡ world.report
+  pub end : done.end ≡ None
+  pub machine : done.machine ≡ None
+
+-- the file is refused by its first failure; or it is accepted, and a run of it is not built
+abbrev pub IsRefused : Option Command → World → List ℕ → List ℕ → Type 0
+IsRefused command world name file =
+    ((fault : LoadFault) × (refusal_of file ≡ Some fault) × WroteLine world (fault_line fault))
+    ⊎ (IsRunOf command name × Accepts file × IsNotBuilt file × WroteLine world refused_line)
+
 -- the answer to a command
 pub record Answered (command : Option Command) (seed : List ℕ) (world : World) (done : Done) : Type 0 where
   pub statuses : Contains (0 ∷ 1 ∷ 10 ∷ 11 ∷ 12 ∷ 13 ∷ 14 ∷ []) done.status
@@ -93,21 +121,24 @@ pub record Answered (command : Option Command) (seed : List ℕ) (world : World)
   pub usage : done.status ≡ 10 → (command ≡ None) × WroteLine world usage_line
   pub no_command : command ≡ None → Contains (10 ∷ 13 ∷ 14 ∷ []) done.status
   -- the file cannot be read, or is longer than the limit
-  pub file : done.status ≡ 11 → (name : List ℕ) × IsRunOf command name
+  pub file : done.status ≡ 11 → (name : List ℕ) × IsOf command name
       × ((LoadRose world name × WroteLine world (unreadable_line name)) ⊎ (HoldsLong world.held name × WroteLine world (too_long_line name)))
-  pub lacking : (name : List ℕ) → IsRunOf command name → Lacks world.held name → Contains (11 ∷ 13 ∷ 14 ∷ []) done.status
-  -- the file is not thin, or the unmoved machine does not come to an exit with what is built
-  pub refused : done.status ≡ 12 → (name : List ℕ) × IsRunOf command name
-      × (file : List ℕ) × Holds world.held name file × IsNotBuilt file × WroteLine world refused_line
+  pub lacking : (name : List ℕ) → IsOf command name → Lacks world.held name → Contains (11 ∷ 13 ∷ 14 ∷ []) done.status
+  -- the file is refused, or it is accepted and a run of it is not built
+  pub refused : done.status ≡ 12 → (name : List ℕ) × IsOf command name × (file : List ℕ) × Holds world.held name file × IsRefused command world name file
+  pub unaccepted : (name file : List ℕ) (fault : LoadFault) → IsOf command name → IsReadable world name file → refusal_of file ≡ Some fault
+      → Contains (12 ∷ 13 ∷ 14 ∷ []) done.status
   pub not_thin : (name file : List ℕ) → IsRunOf command name → IsReadable world name file → thin_image file ≡ None → Contains (12 ∷ 13 ∷ 14 ∷ []) done.status
   pub not_built : (name file : List ℕ) (image : Image) → IsRunOf command name → IsReadable world name file → thin_image file ≡ Some image
       → is_built 100000 image ≡ false → Contains (12 ∷ 13 ∷ 14 ∷ []) done.status
   pub runs : (name file : List ℕ) (image : Image) → IsRunOf command name → IsReadable world name file → thin_image file ≡ Some image
       → is_built 100000 image ≡ true → Contains (0 ∷ 1 ∷ 13 ∷ 14 ∷ []) done.status
   pub thin : (name file : List ℕ) → IsRunOf command name → IsReadable world name file → Contains (0 ∷ 1 ∷ 12 ∷ 13 ∷ 14 ∷ []) done.status
+  pub checks : (name file : List ℕ) → IsCheckOf command name → IsReadable world name file → Accepts file → Contains (0 ∷ 13 ∷ 14 ∷ []) done.status
   -- the run ended with an exit
-  pub ran : done.status ≤ 1 → (name : List ℕ) × IsRunOf command name
-      × (file : List ℕ) × Holds world.held name file × (m : Past) × IsRun world seed file m done
+  pub ran : (name : List ℕ) → IsRunOf command name → done.status ≤ 1 → (file : List ℕ) × Holds world.held name file × (m : Past) × IsRun world seed file m done
+  -- the image was listed
+  pub checked : (name : List ℕ) → IsCheckOf command name → done.status ≤ 1 → (file : List ℕ) × Holds world.held name file × IsChecked world file done
   -- a sink failed: a front of what is due was taken
   pub sink : done.status ≡ 13 → Rose world.out.faults world.out'.faults ⊎ Rose world.report.faults world.report'.faults
   pub short : done.status ≡ 13 → (due : Due) × IsDue command seed world.held world.before world.now due

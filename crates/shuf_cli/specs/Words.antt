@@ -4,7 +4,7 @@ use Rattle.std.specs.List.{starts_with}
 use Rattle.std.specs.Cmp.Lexicographic.{pointwise}
 use Rattle.std.specs.declared.alloc.Global.{Global}
 use Rattle.shuf_cli.specs.declared.words.Command.{Command}
-use Rattle.shuf_cli.specs.declared.words.Command.TheVariants.{Run}
+use Rattle.shuf_cli.specs.declared.words.Command.TheVariants.{Run, Check}
 use Rattle.shuf_cli.specs.declared.words.Opts.{Opts}
 
 -- two texts are one
@@ -22,8 +22,17 @@ is_file_word word = nat_lt 0 (length word) && not (starts_with nat_eq word (code
 abbrev pub default_opts : Opts
 default_opts = record { seed = None; period = 100000; quantum = 1000; steps = 100000000; workers = 4; serial = true; input = None; full = false }
 
--- the command, or none where the words are none: `run FILE --serial`
-abbrev pub command_of : List (List ℕ) → Option Command
-command_of (verb ∷ file ∷ option ∷ []) =
+-- `run FILE --serial`
+abbrev pub run_of : (verb file option : List ℕ) → Option Command
+run_of verb file option =
     if same verb (codes "run") && same option (codes "--serial") && is_file_word file then Some (Run file default_opts) else None
+
+-- `check FILE`
+abbrev pub check_of : (verb file : List ℕ) → Option Command
+check_of verb file = if same verb (codes "check") && is_file_word file then Some (Check file) else None
+
+-- the command, or none where the words are none
+abbrev pub command_of : List (List ℕ) → Option Command
+command_of (verb ∷ file ∷ option ∷ []) = run_of verb file option
+command_of (verb ∷ file ∷ []) = check_of verb file
 command_of _ = None

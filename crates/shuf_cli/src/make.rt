@@ -1,20 +1,26 @@
 //! From the words and the files to what is due.
-ghost use Rattle.std.specs.Prelude.{◌≡◌, ◌≢◌, Some, true, false, IfOk, string_bytes};
+ghost use Rattle.std.specs.Prelude.{◌≡◌, ◌≢◌, Some, true, false, IfOk, MatchOption, string_bytes};
+ghost use Rattle.sh_types.specs.Accepted.{Accepts, loaded_image};
+ghost use Rattle.sh_types.specs.Coded.{IsCoded};
 ghost use Rattle.sh_types.specs.Runnable.{IsRunnable};
 ghost use Rattle.sh_types.specs.Thin.{thin_image};
+ghost use Rattle.image_text.specs.Lines.{fault_line};
 ghost use Rattle.shuf_machine.specs.Past.{guest_of};
 ghost use Rattle.hart_runner.specs.Built.{exits_or};
 ghost use Rattle.shuf_cli.specs.Words.{texts, command_of};
-ghost use Rattle.shuf_cli.specs.Due.{usage_line, unreadable_line, too_long_line, refused_line, line_due, exit_due, IsRunDue, IsFileDue, IsLoadDue, IsDue};
+ghost use Rattle.shuf_cli.specs.Due.{usage_line, unreadable_line, too_long_line, refused_line, line_due, exit_due, listing_due, file_word, IsRunDue, IsAcceptedDue, IsFileDue, IsLoadDue, IsDue};
 
 use crate::{Command, Due, WordFault, read_words};
+use guest_image::{load_image, mapped_bytes};
 use hart_runner::{Plan, run_built};
+use image_text::{listing, refusal_line};
 use period_report::{Form, report};
 use sh_base::{FileFault, Files};
-use sh_types::{Bytes, End, Image, NoMemory};
+use sh_types::{Bytes, End, Image, LoadFault, NoMemory};
 use shuf_machine::{Machine, Origin};
 use std::alloc::Global;
-use thin_image::read_thin;
+use std::thread::Threads;
+use thin_image::classify;
 use thin_law::thin_images_are_fine;
 
 /// The most bytes of a file.
@@ -68,10 +74,19 @@ fn too_long(alloc: Global, name: &str) -> Result<Due, NoMemory>
 }
 
 #[tactic(auto, unfolding(crate::specs::Due::refused_line))]
-fn refused(alloc: Global) -> Result<Due, NoMemory>
+fn not_built(alloc: Global) -> Result<Due, NoMemory>
     ensures { IfOk result (λ due. due ≡ line_due 12 refused_line) }
 {
     let line = String::from_str(alloc, "shuffler: refused: not built\n")?;
+    Ok(refusal(12, line))
+}
+
+/// The line on a file that is refused is due. Want of memory is no refusal.
+fn refused(alloc: Global, fault: LoadFault) -> Result<Due, NoMemory>
+    requires { fault ≢ LoadFault.NoMemory }
+    ensures { IfOk result (λ due. due ≡ line_due 12 (fault_line fault)) }
+{
+    let line = refusal_line(alloc, fault)?;
     Ok(refusal(12, line))
 }
 
@@ -124,60 +139,113 @@ fn of_image(alloc: Global, image: Image, file: Bytes, seed: &[u8; 32]) -> Result
         let code = code_of(machine.end());
         exited(alloc, machine, code)
     } else {
-        refused(alloc)
+        not_built(alloc)
     }
 }
 
-/// Runs the file, unless it is too long or not thin.
-fn of_file(alloc: Global, name: &str, file: Bytes, seed: &[u8; 32]) -> Result<Due, NoMemory>
-    ensures { IfOk result (λ due. IsFileDue name.now file seed.now due) }
+/// Runs the image of the file, if the file is thin.
+#[tactic(auto, unfolding(sh_types::specs::Thin::thin_image))]
+fn of_code(alloc: Global, image: Image, file: Bytes, seed: &[u8; 32]) -> Result<Due, NoMemory>
+    requires accepted { Accepts file }
+    requires image { image ≡ loaded_image file }
+    requires coded { IsCoded image }
+    ensures { IfOk result (λ due. MatchOption (thin_image file) (due ≡ line_due 12 refused_line) (λ image. IsRunDue file seed.now due)) }
 {
-    if file.len() as u64 > FILE_LIMIT {
-        return too_long(alloc, name);
-    }
-    match read_thin(alloc, file.as_slice()) {
-        Ok(Some(image)) => of_image(alloc, image, file, seed),
-        Ok(None) => refused(alloc),
-        Err(NoMemory) => Err(NoMemory),
+    match classify(alloc, image)? {
+        Some(image) => of_image(alloc, image, file, seed),
+        None => not_built(alloc),
     }
 }
 
-/// Loads the file and runs it.
-fn of_name<F: Files>(
+/// The text that lists the image of the file is due.
+fn listed(alloc: Global, image: &Image, file: &[u8]) -> Result<Due, NoMemory>
+    requires accepted { Accepts file.now }
+    requires image { image.now ≡ loaded_image file.now }
+    requires coded { IsCoded image.now }
+    ensures { IfOk result (λ due. due ≡ listing_due file.now) }
+{
+    let mapped = mapped_bytes(alloc, file)?;
+    let text = listing(alloc, image, mapped)?;
+    Ok(Due {
+        out: Some(text),
+        report: None,
+        status: 0,
+        end: None,
+        machine: None,
+    })
+}
+
+/// Does the command on the image of its file.
+fn of_accepted(
     alloc: Global,
-    name: &str,
-    files: &mut F,
+    command: &Command,
+    image: Image,
+    file: Bytes,
     seed: &[u8; 32],
 ) -> Result<Due, NoMemory>
-    ensures held { F.held files.new ≡ F.held files.old }
-    ensures due { IfOk result (λ due. IsLoadDue name.now seed.now (F.held files.old) (F.faults files.old) (F.faults files.new) due) }
-    ensures status { IfOk result (λ due. due.status ≢ 13) }
+    requires accepted { Accepts file }
+    requires image { image ≡ loaded_image file }
+    requires coded { IsCoded image }
+    ensures { IfOk result (λ due. IsAcceptedDue command.now file seed.now due) }
 {
-    match files.load(name, FILE_LIMIT) {
-        Ok(file) => of_file(alloc, name, file, seed),
-        Err(FileFault::Failed) => unreadable(alloc, name),
-        Err(FileFault::NoMemory) => Err(NoMemory),
+    match command {
+        Command::Run { .. } => of_code(alloc, image, file, seed),
+        Command::Check { .. } => listed(alloc, &image, file.as_slice()),
     }
 }
 
-/// Does the command.
-fn of_command<F: Files>(
+/// The word of the file that a command loads.
+fn file_of(command: &Command) -> &str
+    ensures { result.now ≡ file_word command.now }
+{
+    match command {
+        Command::Run { file, .. } | Command::Check { file } => file.as_str(),
+    }
+}
+
+/// Does the command on its file, unless the file is too long or refused.
+fn of_file<R: Threads + Sync>(
+    rt: &R,
+    alloc: Global,
+    command: &Command,
+    file: Bytes,
+    seed: &[u8; 32],
+) -> Result<Due, NoMemory>
+    ensures { IfOk result (λ due. IsFileDue command.now file seed.now due) }
+{
+    if file.len() as u64 > FILE_LIMIT {
+        return too_long(alloc, file_of(command));
+    }
+    match load_image(rt, alloc, file.as_slice()) {
+        Ok(image) => of_accepted(alloc, command, image, file, seed),
+        Err(LoadFault::NoMemory) => Err(NoMemory),
+        Err(fault) => refused(alloc, fault),
+    }
+}
+
+/// Loads the command's file and does the command.
+fn of_command<R: Threads + Sync, F: Files>(
+    rt: &R,
     alloc: Global,
     command: &Command,
     files: &mut F,
     seed: &[u8; 32],
 ) -> Result<Due, NoMemory>
     ensures held { F.held files.new ≡ F.held files.old }
-    ensures due { IfOk result (λ due. IsDue (Some command.now) seed.now (F.held files.old) (F.faults files.old) (F.faults files.new) due) }
+    ensures due { IfOk result (λ due. IsLoadDue command.now seed.now (F.held files.old) (F.faults files.old) (F.faults files.new) due) }
     ensures status { IfOk result (λ due. due.status ≢ 13) }
 {
-    match command {
-        Command::Run { file, .. } => of_name(alloc, file.as_str(), files, seed),
+    let name = file_of(command);
+    match files.load(name, FILE_LIMIT) {
+        Ok(file) => of_file(rt, alloc, command, file, seed),
+        Err(FileFault::Failed) => unreadable(alloc, name),
+        Err(FileFault::NoMemory) => Err(NoMemory),
     }
 }
 
 /// What is due for these words. It loads the file that they name, and writes nothing.
-pub fn make_due<F: Files>(
+pub fn make_due<R: Threads + Sync, F: Files>(
+    rt: &R,
     alloc: Global,
     words: &[String],
     files: &mut F,
@@ -188,7 +256,7 @@ pub fn make_due<F: Files>(
     ensures status { IfOk result (λ due. due.status ≢ 13) }
 {
     match read_words(alloc, words) {
-        Ok(command) => of_command(alloc, &command, files, seed),
+        Ok(command) => of_command(rt, alloc, &command, files, seed),
         Err(WordFault::Usage) => usage(alloc),
         Err(WordFault::NoMemory) => Err(NoMemory),
     }

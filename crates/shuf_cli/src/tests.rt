@@ -1,37 +1,12 @@
 //! The top call over files and sinks in memory. The guest writes `hi` and a line feed, and exits.
 use crate::{serial_command, shuffler_main};
+use sample_files::{HOME, Sample, file_of};
 use sh_base::{MemFiles, MemSink, NoGate};
 use sh_types::{Bytes, End, Event, Items, Name};
 use std::alloc::{AllocError, Global};
 use std::process::Abort;
 use std::test::Fail;
 use std::thread::Threads;
-
-/// The file header and two program headers (System V gABI, "ELF Header", "Program Header"), as words of 8 bytes.
-const HEAD: [u64; 22] = [
-    0x0001_0102_464c_457f,
-    0,
-    0x0000_0001_00f3_0002,
-    0x1_0000,
-    64,
-    0x108c,
-    0x0038_0040_0000_0000,
-    0x0007_0008_0040_0002,
-    0x0000_0005_0000_0001,
-    0x1000,
-    0x1_0000,
-    0x1_0000,
-    68,
-    68,
-    0x1000,
-    0x0000_0006_0000_0001,
-    0x2000,
-    0x1_1000,
-    0x1_1000,
-    0,
-    0,
-    0x1000,
-];
 
 /// `start` stores the three bytes on its stack, calls `three`, which sets a2, and makes the calls 64 and 93.
 const CODE: [u32; 17] = [
@@ -54,43 +29,19 @@ const CODE: [u32; 17] = [
     0x0000_8067,
 ];
 
-/// The symbols `start` and `three`, behind the empty one (System V gABI, "Symbol Table").
-const SYMBOLS: [u64; 9] = [
-    0,
-    0,
-    0,
-    0x0001_0012_0000_0001,
-    0x1_0000,
-    60,
-    0x0001_0012_0000_0007,
-    0x1_003c,
-    8,
-];
-
-/// Section header 5: where the symbols stand (System V gABI, "Section Header").
-const SYMBOL_SECTION: [u64; 8] = [0x0000_0002_0000_0000, 0, 0, 0x1044, 72, 0, 8, 24];
-
-fn put(file: &mut Vec<u8>, words: &[u64]) -> Result<(), AllocError> {
-    for word in words {
-        file.extend_from_slice(&word.to_le_bytes())?;
-    }
-    Ok(())
-}
-
 /// The guest with this word in place of the one with this number.
 fn guest(alloc: Global, number: usize, other: u32) -> Result<Vec<u8>, AllocError> {
-    let mut file = Vec::new(alloc);
-    put(&mut file, &HEAD)?;
-    file.resize(0x1000, 0)?;
-    for (i, word) in CODE.iter().enumerate() {
-        let word = if i == number { other } else { *word };
-        file.extend_from_slice(&word.to_le_bytes())?;
+    let mut code = CODE;
+    if let Some(word) = code.get_mut(number) {
+        *word = other;
     }
-    put(&mut file, &SYMBOLS)?;
-    file.resize(0x108c + 5 * 64, 0)?;
-    put(&mut file, &SYMBOL_SECTION)?;
-    file.resize(0x108c + 8 * 64, 0)?;
-    Ok(file)
+    let sample = Sample {
+        entry: HOME,
+        functions: &[("start", 15), ("three", 2)],
+        code: &code,
+        data: b"",
+    };
+    file_of(alloc, &sample)
 }
 
 fn words_of(alloc: Global, words: &[&str]) -> Result<Vec<String>, AllocError> {
@@ -191,6 +142,28 @@ fn expect<R: Threads + Sync + Abort>(
 
 const RUN: [&str; 3] = ["run", "a.elf", "--serial"];
 
+const CHECK: [&str; 2] = ["check", "a.elf"];
+
+/// The list of the first guest's file.
+const LIST: &str = "accepted functions 2 code 68 mapped 68 entry f0
+f0 0x10000 size 60 start
+f1 0x1003c size 8 three
+";
+
+/// A check runs nothing, so a guest that is not run is listed too.
+#[test]
+fn checks(rt: HostRuntime) -> Result<(), Fail> {
+    let alloc = rt.alloc();
+    let want = with_status(0, LIST, "");
+    expect(&rt, alloc, &CHECK, &guest(alloc, 17, 0)?, want)?;
+    expect(&rt, alloc, &CHECK, &guest(alloc, 14, 0x13)?, want)?;
+    let want = Want {
+        out_fails: true,
+        ..with_status(13, "", "")
+    };
+    expect(&rt, alloc, &CHECK, &guest(alloc, 17, 0)?, want)
+}
+
 #[test]
 fn a_run_hands_out_its_machine(rt: HostRuntime) -> Result<(), Fail> {
     let alloc = rt.alloc();
@@ -224,8 +197,10 @@ fn a_run_hands_out_its_machine(rt: HostRuntime) -> Result<(), Fail> {
 
 #[test]
 fn words_that_are_no_command(rt: HostRuntime) -> Result<(), Fail> {
-    let lists: [&[&str]; 6] = [
+    let lists: [&[&str]; 8] = [
         &[],
+        &["check"],
+        &["check", "a.elf", "--serial"],
         &["run", "a.elf"],
         &["run", "--serial", "a.elf"],
         &["run", "a.elf", "--serial", "--serial"],
@@ -246,12 +221,13 @@ fn words_that_are_no_command(rt: HostRuntime) -> Result<(), Fail> {
 
 #[test]
 fn files_that_are_not_run(rt: HostRuntime) -> Result<(), Fail> {
-    let refused = "shuffler: refused: not built\n";
-    for size in [0, 63, 64] {
-        let mut file = Vec::new(rt.alloc());
-        file.resize(size, 0)?;
-        expect(&rt, rt.alloc(), &RUN, &file, with_status(12, "", refused))?;
+    let short = "shuffler: refused: elf Short\n";
+    for words in [RUN.as_slice(), CHECK.as_slice()] {
+        expect(&rt, rt.alloc(), words, b"", with_status(12, "", short))?;
     }
+    let magic = "shuffler: refused: elf Magic\n";
+    let zeros = [0; 64];
+    expect(&rt, rt.alloc(), &RUN, &zeros, with_status(12, "", magic))?;
     let missing = "shuffler: file b.elf cannot be read\n";
     let words = ["run", "b.elf", "--serial"];
     expect(&rt, rt.alloc(), &words, b"", with_status(11, "", missing))?;

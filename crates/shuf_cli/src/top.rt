@@ -14,7 +14,8 @@ use std::thread::Threads;
 const NO_MEMORY: u8 = 14;
 
 /// Makes what is due and delivers it.
-fn answer_command<F: Files, O: Sink, E: Sink>(
+fn answer_command<R: Threads + Sync, F: Files, O: Sink, E: Sink>(
+    rt: &R,
     alloc: Global,
     words: &[String],
     files: &mut F,
@@ -33,7 +34,7 @@ fn answer_command<F: Files, O: Sink, E: Sink>(
       report' = record { written = E.written report.new; faults = E.faults report.new };
     }) result }
 {
-    match make_due(alloc, words, files, seed) {
+    match make_due(rt, alloc, words, files, seed) {
         Ok(due) => deliver(due, out, report),
         Err(NoMemory) => Done {
             status: NO_MEMORY,
@@ -43,11 +44,13 @@ fn answer_command<F: Files, O: Sink, E: Sink>(
     }
 }
 
-/// Does a command: `words` are those of the command line, `seed` is that of the layouts. It loads from `files`,
-/// and writes to `out` what the guest wrote and to `report` the report on the run, or to `report` alone one line. A guest is run only where it comes to an exit
-/// within 100,000 instructions and makes no other call of the environment before than write. It waits for nobody.
+/// Does a command: `words` are those of the command line, `seed` is that of the layouts. It loads from `files`. For a
+/// run it writes to `out` what the guest wrote and to `report` the report on the run; for a check it writes to `out`
+/// the list of the executable. Else it writes one line to `report`. A guest is run only where its image is thin, it
+/// comes to an exit within 100,000 instructions and makes no other call of the environment before than write. It
+/// waits for nobody.
 pub fn serial_command<R: Threads + Sync, F: Files, O: Sink, E: Sink>(
-    _rt: &R,
+    rt: &R,
     alloc: Global,
     words: &[String],
     files: &mut F,
@@ -67,5 +70,5 @@ pub fn serial_command<R: Threads + Sync, F: Files, O: Sink, E: Sink>(
     }) result }
 {
     serial_lists_are_paced();
-    answer_command(alloc, words, files, out, report, seed)
+    answer_command(rt, alloc, words, files, out, report, seed)
 }

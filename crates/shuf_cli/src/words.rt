@@ -1,6 +1,6 @@
 //! The words of a command line.
 ghost use Rattle.std.specs.Prelude.{◌≡◌, IfOk, IsErrOf, IsSome, None, Some};
-ghost use Rattle.shuf_cli.specs.Words.{texts, is_file_word, default_opts, command_of};
+ghost use Rattle.shuf_cli.specs.Words.{texts, is_file_word, default_opts, run_of, check_of, command_of};
 
 use sh_types::Name;
 use std::alloc::Global;
@@ -24,6 +24,7 @@ pub struct Opts {
 #[derive(Debug, Drop)]
 pub enum Command {
     Run { file: Name, opts: Opts },
+    Check { file: Name },
 }
 
 /// Why words are no command: memory was refused, or they have no meaning.
@@ -56,23 +57,55 @@ fn defaults() -> Opts
     }
 }
 
-/// Reads the words of a command line: `run FILE --serial`. All else is `Usage`.
+/// A file word as a name.
+fn named(alloc: Global, file: &str) -> Result<Name, WordFault>
+    ensures name { IfOk result (λ name. name ≡ file.now) }
+    ensures memory { IsErrOf result WordFault.Usage → ⊥ }
+{
+    match Name::from_str(alloc, file) {
+        Ok(name) => Ok(name),
+        Err(_) => Err(WordFault::NoMemory),
+    }
+}
+
+/// `run FILE --serial`.
+fn read_run(alloc: Global, verb: &str, file: &str, option: &str) -> Result<Command, WordFault>
+    ensures usage { IsErrOf result WordFault.Usage → run_of verb.now file.now option.now ≡ None }
+    ensures command { IfOk result (λ command. run_of verb.now file.now option.now ≡ Some command) }
+    ensures memory { IsErrOf result WordFault.NoMemory → IsSome (run_of verb.now file.now option.now) }
+{
+    if verb != "run" || option != "--serial" || !names_file(file) {
+        return Err(WordFault::Usage);
+    }
+    Ok(Command::Run {
+        file: named(alloc, file)?,
+        opts: defaults(),
+    })
+}
+
+/// `check FILE`.
+fn read_check(alloc: Global, verb: &str, file: &str) -> Result<Command, WordFault>
+    ensures usage { IsErrOf result WordFault.Usage → check_of verb.now file.now ≡ None }
+    ensures command { IfOk result (λ command. check_of verb.now file.now ≡ Some command) }
+    ensures memory { IsErrOf result WordFault.NoMemory → IsSome (check_of verb.now file.now) }
+{
+    if verb != "check" || !names_file(file) {
+        return Err(WordFault::Usage);
+    }
+    Ok(Command::Check {
+        file: named(alloc, file)?,
+    })
+}
+
+/// Reads the words of a command line: `run FILE --serial` or `check FILE`. All else is `Usage`.
 pub fn read_words(alloc: Global, words: &[String]) -> Result<Command, WordFault>
     ensures usage { IsErrOf result WordFault.Usage → command_of (texts words.now) ≡ None }
     ensures command { IfOk result (λ command. command_of (texts words.now) ≡ Some command) }
     ensures memory { IsErrOf result WordFault.NoMemory → IsSome (command_of (texts words.now)) }
 {
-    let [verb, file, option] = words else {
-        return Err(WordFault::Usage);
-    };
-    if verb.as_str() != "run" || option.as_str() != "--serial" || !names_file(file.as_str()) {
-        return Err(WordFault::Usage);
-    }
-    match Name::from_str(alloc, file.as_str()) {
-        Ok(file) => Ok(Command::Run {
-            file,
-            opts: defaults(),
-        }),
-        Err(_) => Err(WordFault::NoMemory),
+    match words {
+        [verb, file, option] => read_run(alloc, verb.as_str(), file.as_str(), option.as_str()),
+        [verb, file] => read_check(alloc, verb.as_str(), file.as_str()),
+        _ => Err(WordFault::Usage),
     }
 }

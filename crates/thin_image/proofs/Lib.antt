@@ -1,7 +1,4 @@
-pub mod Follow
 pub mod Numbered
-pub mod Places
-pub mod Steps
-pub mod Stack
-pub mod Starts
+pub mod Rising
 pub mod Runs
+pub mod Steps

@@ -4,7 +4,7 @@ use Rattle.std.specs.Prelude.{◌==◌}
 use Rattle.std.specs.List.{position_from}
 use Rattle.std.proofs.lemmas.Bool.{cases_lt}
 use Rattle.std.proofs.lemmas.Bool.Decides.{nat_tests}
-use Rattle.sh_types.specs.Thin.{number_of}
+use Rattle.sh_types.specs.Image.{number_of}
 use Rattle.thin_image.specs.LaidOut.{IsRising}
 
 is_here : (s a : ℕ) → s ≡ a → (s == a) ≡ true

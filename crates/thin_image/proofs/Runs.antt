@@ -1,6 +1,6 @@
--- A machine can be made of the image of a thin file.
-use Rattle.std.proofs.Common.{◌≡◌, ℕ, zero, suc, ◌+◌, ◌*◌, ◌/◌, ◌%◌, ◌<◌, ◌≤◌, Bool, true, false, Option, Some, None, List, [], ◌∷◌, length, get_or, refl, sym, ◌∙◌, arith}
-use Rattle.std.specs.Prelude.{◌==◌, ◌&&◌, nat_le, not, is_some, unwrap_or, IfSome, map, slice_index, if◌then◌else◌}
+-- A machine can be made of a thin image.
+use Rattle.std.proofs.Common.{◌≡◌, ℕ, zero, suc, ◌+◌, ◌*◌, ◌/◌, ◌<◌, Bool, true, false, Option, Some, None, List, [], ◌∷◌, length, get_or, refl, sym, ◌∙◌, arith}
+use Rattle.std.specs.Prelude.{◌==◌, ◌&&◌, not, map, slice_index, if◌then◌else◌}
 use Rattle.std.specs.List.{list_all, position_from, zip}
 use Rattle.std.proofs.lemmas.Bool.{and_parts, true≢false}
 use Rattle.std.proofs.lemmas.Bool.Decides.{nat_tests}
@@ -11,53 +11,36 @@ use Rattle.sh_types.specs.declared.code.Image.{Image}
 use Rattle.sh_types.specs.declared.code.Pair.{Pair}
 use Rattle.sh_types.specs.declared.code.Site.{Site}
 use Rattle.sh_types.specs.declared.code.Site.TheVariants.{Plain, Literal, IndirectCall, IndirectTail, ReturnLike, Environment}
-use Rattle.sh_types.specs.declared.elf.RawSymbol.{RawSymbol}
 use Rattle.sh_types.specs.declared.instructions.Instr.{Instr}
+use Rattle.sh_types.specs.Accepted.{sum_of}
+use Rattle.sh_types.specs.Coded.{IsCoded}
 use Rattle.sh_types.specs.Copy.{IsCopyable, goes_to, is_through, is_literal, literal_at, literals_in, literals_below}
 use Rattle.sh_types.specs.Decoding.{decoded}
-use Rattle.sh_types.specs.Elf.{entry_of}
-use Rattle.sh_types.specs.Image.{sizes_of, site_at}
+use Rattle.sh_types.specs.Image.{sizes_of, starts_of, number_of, site_at}
 use Rattle.sh_types.specs.Place.{pair}
 use Rattle.sh_types.specs.Runnable.{IsRunnable}
 use Rattle.sh_types.specs.Sized.{total, IsSized}
-use Rattle.sh_types.specs.Thin.{follow, starts_of, words_of, code_size, is_code_size, number_of, callee_of, function_of, call_site, instr_site, word_site, sites_from, is_ecall, is_jalr, is_jal, has_thin_header, has_thin_programs, has_thin_symbols, has_thin_code, are_entered, is_thin, thin_functions, image_of, thin_image}
-use Rattle.thin_image.proofs.Starts.{length-starts_of}
-use Rattle.thin_image.proofs.Follow.{leads}
+use Rattle.sh_types.specs.Thin.{callee_of, call_site, instr_site, word_site, sites_from, is_ecall, is_jalr, is_jal, classified}
+use Rattle.thin_image.proofs.Rising.{length-starts_of}
 
 -- ---- the sizes
 
-sizes : List RawSymbol → List ℕ
-sizes fs = map (λ (f : Function). f.size) (map function_of fs)
+total_is : (sizes : List ℕ) → total sizes ≡ sum_of sizes + 4 * length sizes
+total_is [] = refl
+total_is (s ∷ ss) = let rest = total_is ss in omega (arith, rest)
 
-total_is : (start end : ℕ) (fs : List RawSymbol) → follow start end fs ≡ true → start + total (sizes fs) ≡ end + 4 * length fs
-unfolding sizes
-total_is start end [] h = grind (arith, nat_tests, h)
-total_is start end (f ∷ fs) h =
-    let parts = leads start end f fs h in
-    let rest = total_is (start + f.size) end fs parts.1 in
-    omega (arith, rest)
+length-sizes : (image : Image) → length (sizes_of image) ≡ length image.functions
+unfolding sizes_of
+length-sizes image = length-map image.functions (λ (f : Function). f.size)
 
-whole_is : (start end : ℕ) (fs : List RawSymbol) → follow start end fs ≡ true → (i : ℕ) → slice_index (sizes fs) i % 4 ≡ 0
-unfolding sizes
-whole_is start end [] h i = refl
-whole_is start end (f ∷ fs) h zero = let parts = leads start end f fs h in parts.0.whole
-whole_is start end (f ∷ fs) h (suc i) = let parts = leads start end f fs h in whole_is (start + f.size) end fs parts.1 i
-
-length-sizes : (fs : List RawSymbol) → length (sizes fs) ≡ length fs
-unfolding sizes
-length-sizes fs = length-map (map function_of fs) (λ (f : Function). f.size) ∙ length-map fs function_of
-
--- functions that fill a code of some bytes are some
-some_are : (start end : ℕ) (fs : List RawSymbol) → start < end → follow start end fs ≡ true → 0 < length fs
-some_are start end [] l h = grind (arith, nat_tests, h)
-some_are start end (f ∷ fs) l h = omega arith
-
-sized : (size : ℕ) (fs : List RawSymbol) → 0 < size → size ≤ 524288 → length fs ≤ 16384 → follow 0x10000 (0x10000 + size) fs ≡ true → IsSized (sizes fs)
-sized size fs some small few h =
-    let many = length-sizes fs in
-    let sum = total_is 0x10000 (0x10000 + size) fs h in
-    let any = some_are 0x10000 (0x10000 + size) fs (omega arith) h in
-    record { some = omega (arith, many, any); few = omega (arith, many); fits = omega (arith, sum); whole = whole_is 0x10000 (0x10000 + size) fs h }
+sized : (image : Image) → IsCoded image → IsSized (sizes_of image)
+sized image coded =
+    let many = length-sizes image in
+    let sum = total_is (sizes_of image) in
+    let few = coded.few in
+    let code = coded.code in
+    let entry = coded.entry in
+    record { some = omega (arith, many, entry); few = omega (arith, many, few); fits = omega (arith, many, sum, few, code); whole = coded.whole }
 
 -- ---- the classes
 
@@ -182,73 +165,23 @@ none_below image (suc f) h =
 
 -- ---- the image
 
-entered_below : (n : ℕ) (o : Option ℕ) → ((g : ℕ) → o ≡ Some g → g < n) → is_some o ≡ true → unwrap_or o 0 < n
-entered_below n None h some = absurd cc
-entered_below n (Some g) h some = h g refl
-
-length-functions : (fs : List RawSymbol) → length (map function_of fs) ≡ length (starts_of fs)
-length-functions fs = length-map fs function_of ∙ sym (length-starts_of fs)
-
--- the parts of the test on the code
-record IsThinCode (b : List ℕ) (fs : List RawSymbol) : Type 0 where
-  few : length fs ≤ 16384
-  follows : follow 0x10000 (0x10000 + code_size b) fs ≡ true
-  enters : is_some (number_of (starts_of fs) (entry_of b)) ≡ true
-
-parts_of_code : (b : List ℕ) (fs : List RawSymbol) → has_thin_code b fs ≡ true → IsThinCode b fs
-unfolding has_thin_code are_entered
-parts_of_code b fs h =
-    let last = and_parts _ (are_entered b fs) h in
-    let parts = and_parts (nat_le (length fs) 16384) (follow 0x10000 (0x10000 + code_size b) fs) last.0 in
-    let entry = and_parts (is_some (number_of (starts_of fs) (entry_of b))) _ last.1 in
-    record { few = grind (arith, nat_tests, parts.0); follows = parts.1; enters = entry.0 }
-
-copyable : (b : List ℕ) (fs : List RawSymbol) → IsCopyable (image_of b fs)
-unfolding image_of
-copyable b fs =
-    let fit = all_fit (starts_of fs) (zip (starts_of fs) (map (words_of b) fs)) in
-    let go = all_go (length (starts_of fs)) (image_of b fs).sites fit in
-    let none = none_below (image_of b fs) (length (map function_of fs)) (never (length (starts_of fs)) (image_of b fs) fit) in
-    let many = length-functions fs in
+copyable : (image : Image) → IsCopyable (classified image)
+unfolding classified
+copyable image =
+    let starts : List ℕ = starts_of image.functions in
+    let fit = all_fit starts (zip starts image.words) in
+    let go = all_go (length starts) (classified image).sites fit in
+    let none = none_below (classified image) (length image.functions) (never (length starts) (classified image) fit) in
+    let many = length-starts_of image.functions in
     record {
-      goes = rw many go;
+      goes = rw (sym many) go;
       literals = rw none (omega arith);
-      through = λ p i t d. absurd (true≢false (sym t ∙ no_through _ (poor_at (length (starts_of fs)) (image_of b fs) fit p)));
+      through = λ p i t d. absurd (true≢false (sym t ∙ no_through _ (poor_at (length starts) (classified image) fit p)));
     }
 
-runnable : (b : List ℕ) (fs : List RawSymbol) → 0 < code_size b → code_size b ≤ 524288 → has_thin_code b fs ≡ true → IsRunnable (image_of b fs)
-unfolding image_of sizes_of sizes
-runnable b fs some small h =
-    let code = parts_of_code b fs h in
-    let many = length-functions fs in
-    record {
-      sized = sized (code_size b) fs some small code.few code.follows;
-      copyable = copyable b fs;
-      entry = rw many (entered_below (length (starts_of fs)) (number_of (starts_of fs) (entry_of b)) (λ g e. number_below (starts_of fs) (entry_of b) g e) code.enters);
-      regions = refl;
-    }
-
-fits_code : (b : List ℕ) → has_thin_programs b ≡ true → is_code_size (code_size b) ≡ true
-unfolding has_thin_programs
-fits_code b h = grind (arith, nat_tests, h)
-
-image_runs : (b : List ℕ) → is_thin b ≡ true → IsRunnable (image_of b (thin_functions b))
-unfolding is_thin
-image_runs b h =
-    let last = and_parts _ (has_thin_code b (thin_functions b)) h in
-    let symbols = and_parts _ (has_thin_symbols b) last.0 in
-    let parts = and_parts (has_thin_header b) (has_thin_programs b) symbols.0 in
-    let size = fits_code b parts.1 in
-    runnable b (thin_functions b) (grind (arith, nat_tests, size)) (grind (arith, nat_tests, size)) last.1
-
--- a machine can be made of what is read of a file
-thin_runs : (b : List ℕ) → IfSome (thin_image b) IsRunnable
-unfolding thin_image
-thin_runs b = by (λ h. image_runs b h) (is_thin b) refl
-  where
-    by : (is_thin b ≡ true → IsRunnable (image_of b (thin_functions b))) → (t : Bool) → is_thin b ≡ t → IfSome (if t then Some (image_of b (thin_functions b)) else None) IsRunnable
-    by runs true h = runs h
-    by runs false h = tt
-
-pub found_runs : (found : Option Image) (b : List ℕ) → found ≡ thin_image b → IfSome found IsRunnable
-found_runs found b e = rw e (thin_runs b)
+-- a machine can be made of an image with one region, once it has classes and frames
+pub runs : (found image : Image) → IsCoded image → (length image.regions == 1) ≡ true → found ≡ classified image → IsRunnable found
+unfolding classified sizes_of
+runs found image coded one e =
+    let regions : length image.regions ≡ 1 = grind (arith, nat_tests, one) in
+    rw e (record { sized = sized image coded; copyable = copyable image; entry = coded.entry; regions = coded.stack regions })

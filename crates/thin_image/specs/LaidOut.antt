@@ -1,13 +1,5 @@
--- What the code needs to know of functions that lie one behind the other.
-use Rattle.std.specs.Prelude.{◌≡◌, ◌<◌, ◌≤◌, ℕ, ◌+◌, ◌*◌, ◌%◌, ◌^◌, List, [], length, slice_index, slice_index_or}
-use Rattle.sh_types.specs.declared.elf.RawSymbol.{RawSymbol}
-
--- a function of whole words between two addresses
-pub record IsWithin (start end : ℕ) (f : RawSymbol) : Type 0 where
-  pub low : start ≤ f.value
-  pub some : 0 < f.size
-  pub whole : f.size % 4 ≡ 0
-  pub high : f.value + f.size ≤ end
+-- What the code needs to know of functions that rise.
+use Rattle.std.specs.Prelude.{◌≡◌, ◌<◌, ◌≤◌, ℕ, ◌+◌, ◌*◌, ◌^◌, List, [], length, slice_index, slice_index_or}
 
 -- a few starts, each above the one before
 pub record IsRising (starts : List ℕ) : Type 0 where

@@ -4,7 +4,7 @@ ghost use Rattle.sh_types.specs.Decoding.{decoded};
 ghost use Rattle.sh_types.specs.Thin as thin;
 ghost use Rattle.thin_image.specs.LaidOut.{IsLaidOut, IsRising};
 
-use crate::symbols::number_of;
+use crate::starts::number_of;
 use rv_decode::decode;
 use sh_types::{Instr, Items, Op};
 

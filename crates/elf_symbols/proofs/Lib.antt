@@ -1,0 +1,5 @@
+pub mod Ending
+pub mod Inside
+pub mod Lengths
+pub mod Naming
+pub mod Reading

@@ -1,0 +1,77 @@
+//! The symbol table of a file, and its entries.
+ghost use Rattle.std.specs.Prelude.{◌≡◌, ◌+◌, ◌≤◌, ◌/◌, length, filter, get_or, map, IfOk};
+ghost use Rattle.sh_types.specs.Elf as elf;
+
+use elf_read::raw_symbol;
+use sh_types::{Head, RawSymbol};
+use std::alloc::{AllocError, Global};
+
+const SHT_SYMTAB: u32 = 2;
+
+/// How many bytes an entry of the symbol table takes (Elf64_Sym).
+pub const ENTRY_SIZE: u64 = 24;
+
+/// The headers of symbol tables.
+pub fn symbol_tables(alloc: Global, heads: &[Head]) -> Result<Vec<Head>, AllocError>
+    ensures { IfOk result (λ found. found.items ≡ filter elf.is_symtab heads.now) }
+{
+    let mut found = Vec::new(alloc);
+    for head in heads {
+        if head.kind == SHT_SYMTAB {
+            found.push(*head)?;
+        }
+    }
+    Ok(found)
+}
+
+/// The only header of a list that has one.
+pub fn only(heads: &[Head]) -> Option<Head>
+    ensures { result ≡ elf.only heads.now }
+{
+    match heads {
+        [head] => Some(*head),
+        _ => None,
+    }
+}
+
+/// A header by its number, and one that is all zeros where there is none.
+pub fn head_or_none(heads: &[Head], number: u32) -> Head
+    ensures { result ≡ get_or heads.now number elf.no_head }
+{
+    match heads.get(number as usize) {
+        Some(head) => *head,
+        None => no_head(),
+    }
+}
+
+/// What stands for a header where there is none.
+pub fn no_head() -> Head
+    ensures { result ≡ elf.no_head }
+{
+    Head {
+        name: 0,
+        kind: 0,
+        flags: 0,
+        start: 0,
+        file_at: 0,
+        size: 0,
+        link: 0,
+        info: 0,
+        each: 0,
+    }
+}
+
+/// The symbols of a table as they stand in it.
+pub fn entries(alloc: Global, bytes: &[u8], table: &Head) -> Result<Vec<RawSymbol>, AllocError>
+    requires { table.now.file_at + table.now.size ≤ length bytes.now }
+    ensures { IfOk result (λ found. found.items ≡ map (elf.raw_symbol bytes.now) (elf.places 24 table.now.file_at (table.now.size / 24))) }
+{
+    let count = table.size / ENTRY_SIZE;
+    let mut found = Vec::with_capacity(alloc, count as usize)?;
+    let mut place = table.file_at as usize;
+    for _ in 0..count {
+        found.push(raw_symbol(bytes, place))?;
+        place += ENTRY_SIZE as usize;
+    }
+    Ok(found)
+}

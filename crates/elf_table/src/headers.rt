@@ -1,0 +1,113 @@
+//! The rules on the header and the program headers.
+use crate::patches::{
+    FIRST_PROGRAM, HUGE, Patch, SECOND_PROGRAM, by, expect_all, first_file, refusal,
+};
+use sh_types::{ElfRule, LimitKind, LoadFault};
+use std::test::Fail;
+
+#[test]
+fn short_files(rt: HostRuntime) -> Result<(), Fail> {
+    let whole = first_file(rt.alloc())?;
+    for (size, want) in [
+        (0, ElfRule::Short),
+        (63, ElfRule::Short),
+        (64, ElfRule::Tables),
+        (4000, ElfRule::Tables),
+    ] {
+        let mut file = Vec::from_slice(rt.alloc(), &whole)?;
+        file.truncate(size);
+        assert_eq!(&rt; refusal(&rt, rt.alloc(), &file), by(want));
+    }
+    let mut zeros = Vec::new(rt.alloc());
+    zeros.resize(64, 0)?;
+    assert_eq!(&rt; refusal(&rt, rt.alloc(), &zeros), by(ElfRule::Magic));
+    assert_eq!(&rt; refusal(&rt, rt.alloc(), &whole), None);
+    Ok(())
+}
+
+#[test]
+fn header_rules(rt: HostRuntime) -> Result<(), Fail> {
+    let cases: [(Patch, ElfRule); 12] = [
+        ((0, 1, 0x7e), ElfRule::Magic),
+        ((3, 1, 0x45), ElfRule::Magic),
+        ((4, 1, 1), ElfRule::Class),
+        ((5, 1, 2), ElfRule::Order),
+        ((6, 1, 0), ElfRule::Version),
+        ((20, 4, 2), ElfRule::Version),
+        ((16, 2, 3), ElfRule::Kind2),
+        ((18, 2, 62), ElfRule::Machine),
+        ((48, 4, 1), ElfRule::Flags),
+        ((48, 4, 2), ElfRule::Flags),
+        ((48, 4, 4), ElfRule::Flags),
+        ((48, 4, 8), ElfRule::Flags),
+    ];
+    for (patch, rule) in cases {
+        expect_all(&rt, rt.alloc(), &[(&[patch], by(rule))])?;
+    }
+    expect_all(&rt, rt.alloc(), &[(&[(48, 4, 0x10)], None)])
+}
+
+#[test]
+fn tables(rt: HostRuntime) -> Result<(), Fail> {
+    let patches: [Patch; 10] = [
+        (54, 2, 64),
+        (58, 2, 56),
+        (56, 2, 0),
+        (60, 2, 0),
+        (62, 2, 8),
+        (60, 2, 65535),
+        (56, 2, 65535),
+        (32, 8, HUGE),
+        (40, 8, HUGE),
+        (40, 8, 0x2099),
+    ];
+    for patch in patches {
+        expect_all(&rt, rt.alloc(), &[(&[patch], by(ElfRule::Tables))])?;
+    }
+    Ok(())
+}
+
+/// p_type 0, p_offset 8, p_vaddr 16, p_filesz 32, p_memsz 40.
+#[test]
+fn segments(rt: HostRuntime) -> Result<(), Fail> {
+    let bad = by(ElfRule::Segment);
+    let mapped = |value| {
+        Some(LoadFault::Limit {
+            kind: LimitKind::Mapped,
+            value,
+        })
+    };
+    expect_all(
+        &rt,
+        rt.alloc(),
+        &[
+            (&[(SECOND_PROGRAM, 4, 2)], by(ElfRule::Dynamic)),
+            (&[(SECOND_PROGRAM, 4, 3)], by(ElfRule::Dynamic)),
+            (&[(SECOND_PROGRAM, 4, 4)], None),
+            (&[(FIRST_PROGRAM + 40, 8, 67)], bad),
+            (&[(FIRST_PROGRAM + 8, 8, HUGE)], bad),
+            (&[(FIRST_PROGRAM + 40, 8, HUGE)], bad),
+            (&[(FIRST_PROGRAM + 16, 8, 0xffc)], bad),
+            (&[(FIRST_PROGRAM + 40, 8, 0x3eff_0001)], bad),
+            (&[(FIRST_PROGRAM + 40, 8, 0x3eff_0000)], mapped(0x3eff_0000)),
+            (&[(FIRST_PROGRAM + 40, 8, 67_108_865)], mapped(67_108_865)),
+            (&[(SECOND_PROGRAM + 16, 8, 0x3f00_0000)], None),
+            (&[(SECOND_PROGRAM + 16, 8, 0x3f00_0001)], bad),
+            (&[(SECOND_PROGRAM + 16, 8, 0)], None),
+            (
+                &[
+                    (SECOND_PROGRAM + 16, 8, 0x1_0043),
+                    (SECOND_PROGRAM + 40, 8, 4),
+                ],
+                bad,
+            ),
+            (
+                &[
+                    (SECOND_PROGRAM + 16, 8, 0x1_0044),
+                    (SECOND_PROGRAM + 40, 8, 4),
+                ],
+                None,
+            ),
+        ],
+    )
+}

@@ -1,0 +1,13 @@
+//! Tests of the loader over whole files: for each rule a file that fails it and passes all before it.
+#![tactic(auto)]
+
+#[cfg(test)]
+mod functions;
+#[cfg(test)]
+mod headers;
+#[cfg(test)]
+mod patches;
+#[cfg(test)]
+mod sections;
+#[cfg(test)]
+mod symbols;

@@ -1,0 +1,111 @@
+//! The first guest's file, with numbers changed, and what the loader answers.
+use guest_image::load_image;
+use sample_files::{HOME, Sample, file_of};
+use sh_types::{ElfRule, LoadFault};
+use std::alloc::{AllocError, Global};
+use std::process::Abort;
+use std::test::Fail;
+use std::thread::Threads;
+
+/// A number of so many bytes at a place of the file.
+pub type Patch = (usize, usize, u64);
+
+/// Patches, and the refusal that they bring; None where the file is accepted.
+pub type Case<'a> = (&'a [Patch], Option<LoadFault>);
+
+/// Where the two program headers stand (System V gABI, "Program Header").
+pub const FIRST_PROGRAM: usize = 64;
+
+pub const SECOND_PROGRAM: usize = 120;
+
+/// Where the symbols of `start` and `three`, the strings and the section headers stand.
+pub const START_SYMBOL: usize = 0x2018;
+
+pub const THREE_SYMBOL: usize = 0x2030;
+
+pub const STRINGS_END: usize = 0x2055;
+
+pub const SECTIONS: usize = 0x2098;
+
+/// A number that no place in a file has.
+pub const HUGE: u64 = u64::MAX;
+
+/// `start` stores three bytes, calls `three` and makes the calls 64 and 93; `three` sets a2.
+const CODE: [u32; 17] = [
+    0xff01_0113,
+    0x0680_0293,
+    0x0051_0023,
+    0x0690_0293,
+    0x0051_00a3,
+    0x00a0_0293,
+    0x0051_0123,
+    0x0200_00ef,
+    0x0010_0513,
+    0x0001_0593,
+    0x0400_0893,
+    0x0000_0073,
+    0x0000_0513,
+    0x05d0_0893,
+    0x0000_0073,
+    0x0030_0613,
+    0x0000_8067,
+];
+
+/// The place of a field of the section header with this number.
+pub const fn section(number: usize, field: usize) -> usize {
+    SECTIONS
+        .wrapping_add(number.wrapping_mul(64))
+        .wrapping_add(field)
+}
+
+/// The file of the first guest.
+pub fn first_file(alloc: Global) -> Result<Vec<u8>, AllocError> {
+    let sample = Sample {
+        entry: HOME,
+        functions: &[("start", 15), ("three", 2)],
+        code: &CODE,
+        data: b"",
+    };
+    file_of(alloc, &sample)
+}
+
+/// Writes a number into the file, the lowest byte first.
+pub fn patch(file: &mut [u8], (at, width, value): Patch) {
+    for (i, byte) in value.to_le_bytes().iter().take(width).enumerate() {
+        if let Some(place) = file.get_mut(at.wrapping_add(i)) {
+            *place = *byte;
+        }
+    }
+}
+
+pub fn patch_all(file: &mut [u8], patches: &[Patch]) {
+    for one in patches {
+        patch(file, *one);
+    }
+}
+
+/// Why the loader refuses the file.
+pub fn refusal<R: Threads + Sync>(rt: &R, alloc: Global, file: &[u8]) -> Option<LoadFault> {
+    match load_image(rt, alloc, file) {
+        Ok(_) => None,
+        Err(fault) => Some(fault),
+    }
+}
+
+/// Patches the first guest's file in each way by itself, and compares.
+pub fn expect_all<R: Threads + Sync + Abort>(
+    rt: &R,
+    alloc: Global,
+    cases: &[Case],
+) -> Result<(), Fail> {
+    for (patches, want) in cases {
+        let mut file = first_file(alloc)?;
+        patch_all(&mut file, patches);
+        assert_eq!(rt; refusal(rt, alloc, &file), *want);
+    }
+    Ok(())
+}
+
+pub const fn by(rule: ElfRule) -> Option<LoadFault> {
+    Some(LoadFault::Elf { rule })
+}

@@ -1,0 +1,6 @@
+use Rattle.std.proofs.Common.{◌≡◌, drop}
+use Rattle.sh_types.specs.Splitting as splitting
+use Rattle.fn_split.proofs.refusal.first_refused.Given as goal
+
+abbrev pub invariant-loop-function : goal.invariant-loop-function
+invariant-loop-function l = splitting.first_refused l.before (drop l.function-index l.functions) ≡ splitting.first_refused 0 l.functions

@@ -1,0 +1,6 @@
+use Rattle.std.proofs.Common.{◌≡◌, drop}
+use Rattle.sh_types.specs.Splitting as splitting
+use Rattle.fn_split.proofs.refusal.inside.Given as goal
+
+abbrev pub invariant-loop-function : goal.invariant-loop-function
+invariant-loop-function l = splitting.inside_of l.entry (drop l.function-index l.functions) ≡ splitting.inside_of l.entry l.functions
