@@ -94,11 +94,11 @@ fn functions_of(alloc: Global, bytes: &[u8], elf: &Elf) -> Result<Items<Function
     requires { IsReadFrom elf.now bytes.now }
     ensures { Passes result (symbol_refusal bytes.now) (AreFunctions (symbols_of bytes.now) (sections_of bytes.now) (entry_of bytes.now)) }
 {
-    let symbols = named_symbols(alloc, bytes, elf)?;
     segments_lie_in_files();
-    limited_memory(elf.segments.as_slice())?;
     sections_are_bounded();
     entries_lie_in_code();
+    let symbols = named_symbols(alloc, bytes, elf)?;
+    limited_memory(elf.segments.as_slice())?;
     few_functions(alloc, elf, &symbols)
 }
 
