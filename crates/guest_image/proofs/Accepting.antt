@@ -12,10 +12,10 @@ use Rattle.sh_types.specs.declared.refusals.LimitKind.{LimitKind}
 use Rattle.sh_types.specs.declared.refusals.LimitKind.TheVariants as kind
 use Rattle.sh_types.specs.declared.refusals.LoadFault.{LoadFault}
 use Rattle.sh_types.specs.declared.refusals.LoadFault.TheVariants as load
-use Rattle.sh_types.specs.Accepted.{Accepts, above, by_rule, mapped_by, or_later, refusal_of}
+use Rattle.sh_types.specs.Accepted.{Accepts, above, by_rule, mapped_by, or_later}
 use Rattle.sh_types.specs.Elf.{segments_of}
 use Rattle.sh_types.specs.ElfRules.{Reads, elf_of, first_failing, symbol_rules, table_rules}
-use Rattle.guest_image.specs.Stages.{function_refusal, symbol_refusal}
+use Rattle.guest_image.specs.Stages.{symbol_refusal}
 use Rattle.guest_image.proofs.Refusing.{whole_refusal}
 
 both_none : (a later : Option LoadFault) → or_later a later ≡ None → (a ≡ None) × (later ≡ None)

@@ -1,3 +1,4 @@
+pub mod Accepting
 pub mod Entry
 pub mod Finding
 pub mod Mapped
@@ -7,4 +8,3 @@ pub mod Refusing
 pub mod Rising
 pub mod Stack
 pub mod Whole
-pub mod Accepting
