@@ -18,6 +18,7 @@ use Rattle.sh_types.specs.Operands.{reads_ra, both_ra, width_of}
 use Rattle.sh_types.specs.Serial.{is_alive, can_go, calls_next, further, run_length}
 use Rattle.hart_runner.specs.First.{IsAlone}
 use Rattle.sh_types.specs.Unmoved.{Thread, Cell, Number, Return, thread_does, thread_needs, load_cell, store_cell, save_cell, take_cell, save_by, back_to, set_thread, is_return, Unmoved, then_leaves, then_call, thread_call, thread_ends, ended_thread, end_if, any_alive, first_answer, first_thread, on_thread, unmoved_step, unmoved_from, unmoved_start}
+use Rattle.hart_runner.proofs.Tests.{and_first, and_second}
 
 -- an instruction leaves the thread as live as it was, unless it ends
 abbrev OutLives : Bool → Outcome Thread Cell → Type 0
@@ -111,12 +112,6 @@ out_alone i u t Calls k e l = call_alone u t (thread_call i.regions t u.cells) e
 out_alone i u t Quits k e l = ends_alone u t t (slice_index t.regs 10 % 256) e
 out_alone i u t (Traps q v) k e l = one (then_leaves i u 0 t (Traps q v)) t e (λ _. l)
 out_alone i u t Leaks k e l = one (then_leaves i u 0 t Leaks) t e (λ _. l)
-
-and_first : (a b : Bool) → (a && b) ≡ true → a ≡ true
-and_first a b e = grind arith
-
-and_second : (a b : Bool) → (a && b) ≡ true → b ≡ true
-and_second a b e = grind arith
 
 pub first_is : (u : Unmoved) (a : IsAlone u) → slice_get u.threads 0 ≡ Some a.thread
 first_is u a = ap (λ ts. slice_get ts 0) a.threads

@@ -7,16 +7,7 @@ use Rattle.sh_types.specs.Event.{goes_still}
 use Rattle.sh_types.specs.Serial.{can_go, calls_next, further, run_length}
 use Rattle.sh_types.specs.Unmoved.{Unmoved, unmoved_step, unmoved_from}
 use Rattle.hart_runner.specs.Built.{comes_to_other, exits_or, exits_within}
-
-and_first : (a b : Bool) → (a && b) ≡ true → a ≡ true
-and_first a b e = grind arith
-
-and_second : (a b : Bool) → (a && b) ≡ true → b ≡ true
-and_second a b e = grind arith
-
-none_of : (e : Option End) → goes_still e ≡ true → e ≡ None
-none_of None g = refl
-none_of (Some e) g = absurd (cc)
+use Rattle.hart_runner.proofs.Tests.{and_first, and_second, none_of}
 
 no_call : (i : Image) (u : Unmoved) → not (calls_next i u 0) ≡ true → comes_to_other i u ≡ false
 unfolding comes_to_other

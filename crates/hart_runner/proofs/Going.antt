@@ -20,6 +20,7 @@ use Rattle.shuf_machine.specs.declared.answers.No.TheVariants.{RunEnded, NoHart,
 use Rattle.shuf_machine.specs.Meant.{IsCause, IsRefusal}
 use Rattle.hart_runner.specs.Built.{comes_to_other, other_at}
 use Rattle.hart_runner.proofs.Calling.{other_stands}
+use Rattle.hart_runner.proofs.Tests.{and_first, and_second, none_of}
 
 live_stands : (o : Setting) (hs : List Hart) (ts : List Thread) → HartsStand o hs ts → is_live (slice_get hs 0) ≡ is_alive (slice_get ts 0)
 live_stands o [] [] stand = refl
@@ -31,15 +32,11 @@ live_stands o (h ∷ hs) (t ∷ ts) stand = stand.0.live
 pub can_stands : (o : Setting) (s : Shuffled) (u : Unmoved) → Stays o s u → can_run s 0 ≡ can_go u 0
 can_stands o s u st = cc (st.stands.end, live_stands o s.harts u.threads st.stands.harts)
 
-and_right : (a b : Bool) → (a && b) ≡ true → b ≡ true
-and_right true b e = e
-and_right false b e = absurd (cc)
-
 pub first_lives : (o : Setting) (s : Shuffled) (u : Unmoved) (h : Hart) → Stays o s u → can_go u 0 ≡ true → slice_get s.harts 0 ≡ Some h → h.live ≡ true
-first_lives o s u h st go e = sym (ap is_live e) ∙ and_right (goes_still s.end) (is_live (slice_get s.harts 0)) (can_stands o s u st ∙ go)
+first_lives o s u h st go e = sym (ap is_live e) ∙ and_second (goes_still s.end) (is_live (slice_get s.harts 0)) (can_stands o s u st ∙ go)
 
 pub first_is : (o : Setting) (s : Shuffled) (u : Unmoved) → Stays o s u → can_go u 0 ≡ true → slice_get s.harts 0 ≡ None → ⊥
-first_is o s u st go e = cc (sym (ap is_live e) ∙ and_right (goes_still s.end) (is_live (slice_get s.harts 0)) (can_stands o s u st ∙ go))
+first_is o s u st go e = cc (sym (ap is_live e) ∙ and_second (goes_still s.end) (is_live (slice_get s.harts 0)) (can_stands o s u st ∙ go))
 
 pub other_there : (o : Setting) (s : Shuffled) (u : Unmoved) (h : Hart) (image : Image) (l : Layout) → IsSetting o → Stays o s u → slice_get s.harts 0 ≡ Some h → h.live ≡ true → h.layout ≡ s.newest → image ≡ o.image → l ≡ o.layout_at s.newest → other_at image (whose_of l h.pc) (slice_index h.regs 17) ≡ comes_to_other o.image u
 other_there o s u h image l set st e live on ei el =
@@ -53,17 +50,9 @@ on_newest newest n older (inr p) f = absurd (cc (p.0, f))
 
 -- ---- a hart that can go is not refused
 
-and_left : (a b : Bool) → (a && b) ≡ true → a ≡ true
-and_left true b e = refl
-and_left false b e = absurd (cc)
-
-goes_none : (e : Option End) → goes_still e ≡ true → e ≡ None
-goes_none None g = refl
-goes_none (Some e) g = absurd (cc)
-
 no_refusal : (w : No) (s : Shuffled) → can_run s 0 ≡ true → IsRefusal w s 0 → ⊥
-no_refusal RunEnded s go r = r (goes_none s.end (and_left (goes_still s.end) (is_live (slice_get s.harts 0)) go))
-no_refusal (NoHart k) s go r = let l = and_right (goes_still s.end) (is_live (slice_get s.harts 0)) go in cc (sym l ∙ r.2)
+no_refusal RunEnded s go r = r (none_of s.end (and_first (goes_still s.end) (is_live (slice_get s.harts 0)) go))
+no_refusal (NoHart k) s go r = let l = and_second (goes_still s.end) (is_live (slice_get s.harts 0)) go in cc (sym l ∙ r.2)
 no_refusal (OnNewest k) s go r = absurd r
 no_refusal (OlderLive k) s go r = absurd r
 no_refusal NoOlder s go r = absurd r

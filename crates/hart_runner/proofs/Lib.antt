@@ -4,3 +4,4 @@ pub mod Exits
 pub mod Rounds
 pub mod Written
 pub mod Going
+pub mod Tests

@@ -15,40 +15,40 @@ use shuf_machine::{Machine, MachineNo, machines_stand};
 
 /// A machine whose first hart is driven: its image, its origin and its journal are what it means.
 pub trait Driven {
-    ghost img: { Self → Image };
+    ghost image: { Self → Image };
 
-    ghost jour: { Self → List Event };
+    ghost journal: { Self → List Event };
 
-    ghost from: { Self → Origin };
+    ghost made_from: { Self → Origin };
 
     /// How the run ended, if it has.
     fn end(&self) -> Option<End>
-        ensures { result ≡ (pace_after (img self.now) (jour self.now)).guest.end };
+        ensures { result ≡ (pace_after (image self.now) (journal self.now)).guest.end };
     /// How many instructions were run.
     fn count(&self) -> u64
-        ensures { result ≡ (pace_after (img self.now) (jour self.now)).count };
+        ensures { result ≡ (pace_after (image self.now) (journal self.now)).count };
     /// Whether the first hart, which can go, comes to an environment call that is not built.
     fn other(&self) -> bool
-        requires can { can_go (pace_after (img self.now) (jour self.now)).guest 0 ≡ true }
-        ensures { result ≡ comes_to_other (img self.now) (pace_after (img self.now) (jour self.now)).guest };
+        requires can { can_go (pace_after (image self.now) (journal self.now)).guest 0 ≡ true }
+        ensures { result ≡ comes_to_other (image self.now) (pace_after (image self.now) (journal self.now)).guest };
     /// One event of the first hart, which can go. Err only where memory is refused, and then the journal stands.
     fn run(&mut self, limit: u64) -> Result<u64, NoMemory>
         requires some { 1 ≤ limit }
-        requires can { can_go (pace_after (img self.old) (jour self.old)).guest 0 ≡ true }
-        requires count { (pace_after (img self.old) (jour self.old)).count + limit < 2 ^ 64 }
-        ensures ok { IfOk result (λ n. jour self.new ≡ jour self.old ++ Event.Run 0 n ∷ []) }
-        ensures length { IfOk result (λ n. n ≡ run_length (img self.old) 0 limit (pace_after (img self.old) (jour self.old)).guest) }
-        ensures same { img self.new ≡ img self.old }
-        ensures origin { from self.new ≡ from self.old }
-        ensures err { OnErr result (jour self.new ≡ jour self.old) };
+        requires can { can_go (pace_after (image self.old) (journal self.old)).guest 0 ≡ true }
+        requires count { (pace_after (image self.old) (journal self.old)).count + limit < 2 ^ 64 }
+        ensures ok { IfOk result (λ n. journal self.new ≡ journal self.old ++ Event.Run 0 n ∷ []) }
+        ensures length { IfOk result (λ n. n ≡ run_length (image self.old) 0 limit (pace_after (image self.old) (journal self.old)).guest) }
+        ensures same { image self.new ≡ image self.old }
+        ensures origin { made_from self.new ≡ made_from self.old }
+        ensures err { OnErr result (journal self.new ≡ journal self.old) };
 }
 
 impl Driven for Machine {
-    ghost img = { λ m. image_of m.origin.file };
+    ghost image = { λ m. image_of m.origin.file };
 
-    ghost jour = { λ m. m.journal };
+    ghost journal = { λ m. m.journal };
 
-    ghost from = { λ m. m.origin };
+    ghost made_from = { λ m. m.origin };
 
     #[tactic(auto, using(crate::proofs::Written::pace_guest))]
     fn end(&self) -> Option<End> {

@@ -1,3 +1,5 @@
+//! How a run is to go.
+
 /// How a run is to go: instructions between publications, instructions in a turn at most, and in all, and threads.
 #[derive(Clone, Copy, Debug, PartialEq, Eq)]
 pub struct Plan {

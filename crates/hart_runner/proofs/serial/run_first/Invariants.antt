@@ -5,7 +5,7 @@ use Rattle.hart_runner.proofs.Rounds.{Standing}
 use Rattle.hart_runner.proofs.serial.run_first.Given as goal
 
 abbrev pub invariant-loop-machine : goal.invariant-loop-machine
-invariant-loop-machine g l = Standing (g.M.Driven.img l.machine) (g.M.Driven.img l.fn.machine) (schedule_of l.plan) (g.M.Driven.jour l.machine) × (g.M.Driven.from l.machine ≡ g.M.Driven.from l.fn.machine)
+invariant-loop-machine g l = Standing (g.M.Driven.image l.machine) (g.M.Driven.image l.fn.machine) (schedule_of l.plan) (g.M.Driven.journal l.machine) × (g.M.Driven.made_from l.machine ≡ g.M.Driven.made_from l.fn.machine)
 
 abbrev pub decreases-loop-machine : goal.decreases-loop-machine
-decreases-loop-machine g l = l.plan.period - (pace_after (g.M.Driven.img l.machine) (g.M.Driven.jour l.machine)).count
+decreases-loop-machine g l = l.plan.period - (pace_after (g.M.Driven.image l.machine) (g.M.Driven.journal l.machine)).count
