@@ -1,5 +1,6 @@
 //! The rules of splitting, and the limits on functions and code. st_value 8, st_size 16.
-use crate::patches::{START_SYMBOL, THREE_SYMBOL, expect_all, refusal};
+use crate::cases::expect_all;
+use crate::patches::{START_SYMBOL, THREE_SYMBOL, refusal};
 use sample_files::{HOME, Sample, file_of};
 use sh_types::{LimitKind, LoadFault, SplitRule};
 use std::alloc::{AllocError, Global};

@@ -1,7 +1,6 @@
 //! The rules on the header and the program headers.
-use crate::patches::{
-    FIRST_PROGRAM, HUGE, Patch, SECOND_PROGRAM, by, expect_all, first_file, refusal,
-};
+use crate::cases::{by, expect_all};
+use crate::patches::{FIRST_PROGRAM, HUGE, Patch, SECOND_PROGRAM, first_file, refusal};
 use sh_types::{ElfRule, LimitKind, LoadFault};
 use std::test::Fail;
 

@@ -2,11 +2,12 @@
 #![tactic(auto)]
 
 #[cfg(test)]
+mod cases;
+#[cfg(test)]
 mod functions;
 #[cfg(test)]
 mod headers;
-#[cfg(test)]
-mod patches;
+pub mod patches;
 #[cfg(test)]
 mod sections;
 #[cfg(test)]

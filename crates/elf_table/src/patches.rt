@@ -1,17 +1,12 @@
-//! The first guest's file, with numbers changed, and what the loader answers.
+//! The first guest's file, with numbers changed, and what the loader answers of it.
 use guest_image::load_image;
 use sample_files::{HOME, Sample, file_of};
-use sh_types::{ElfRule, LoadFault};
+use sh_types::LoadFault;
 use std::alloc::{AllocError, Global};
-use std::process::Abort;
-use std::test::Fail;
 use std::thread::Threads;
 
 /// A number of so many bytes at a place of the file.
 pub type Patch = (usize, usize, u64);
-
-/// Patches, and the refusal that they bring; None where the file is accepted.
-pub type Case<'a> = (&'a [Patch], Option<LoadFault>);
 
 /// Where the two program headers stand (System V gABI, "Program Header").
 pub const FIRST_PROGRAM: usize = 64;
@@ -90,22 +85,4 @@ pub fn refusal<R: Threads + Sync>(rt: &R, alloc: Global, file: &[u8]) -> Option<
         Ok(_) => None,
         Err(fault) => Some(fault),
     }
-}
-
-/// Patches the first guest's file in each way by itself, and compares.
-pub fn expect_all<R: Threads + Sync + Abort>(
-    rt: &R,
-    alloc: Global,
-    cases: &[Case],
-) -> Result<(), Fail> {
-    for (patches, want) in cases {
-        let mut file = first_file(alloc)?;
-        patch_all(&mut file, patches);
-        assert_eq!(rt; refusal(rt, alloc, &file), *want);
-    }
-    Ok(())
-}
-
-pub const fn by(rule: ElfRule) -> Option<LoadFault> {
-    Some(LoadFault::Elf { rule })
 }

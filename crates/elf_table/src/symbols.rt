@@ -1,5 +1,6 @@
 //! The rules on the symbol table, the entry and the names.
-use crate::patches::{HUGE, START_SYMBOL, STRINGS_END, by, expect_all, section};
+use crate::cases::{by, expect_all};
+use crate::patches::{HUGE, START_SYMBOL, STRINGS_END, section};
 use sh_types::ElfRule;
 use std::test::Fail;
 

@@ -1,3 +1,4 @@
+pub mod Accepting
 pub mod Entry
 pub mod Finding
 pub mod Mapped

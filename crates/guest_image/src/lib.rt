@@ -10,11 +10,13 @@ mod accepted;
 mod image;
 mod limits;
 mod load;
+mod memory;
 mod order;
 mod regions;
 mod words;
 
 pub use load::load_image;
+pub use memory::mapped_bytes;
 
 #[cfg(test)]
 mod tests;

@@ -24,7 +24,8 @@ fn limited(kind: LimitKind, most: u64, value: u64) -> Result<(), LoadFault>
     Ok(())
 }
 
-fn mapped_by(segments: &[Segment]) -> u64
+/// The bytes of the segments in memory.
+pub fn mapped_by(segments: &[Segment]) -> u64
     requires { mapped_by segments.now < 2 ^ 64 }
     ensures { result ≡ mapped_by segments.now }
 {

@@ -6,6 +6,7 @@ ghost use Rattle.sh_types.specs.Thin.{thin_image};
 
 use crate::elf::thin_file;
 use crate::read_thin;
+use elf_table::patches::{Patch, THREE_SYMBOL, first_file, patch};
 use sample_files::HOME;
 use sh_base::{MemFiles, MemSink};
 use sh_types::{Bytes, End, Event, FetchLog, Fetched, Image, Items, Name, NoMemory};
@@ -116,11 +117,12 @@ fn a_hart_that_was_never_started(rt: HostRuntime) -> Result<(), Fail> {
     Ok(())
 }
 
-fn files_of(alloc: Global) -> Result<MemFiles, AllocError> {
+/// Files that hold these bytes as `a.elf`.
+fn files_of(alloc: Global, file: Vec<u8>) -> Result<MemFiles, AllocError> {
     let mut names = Items::new(alloc);
     names.push(Name::from_str(alloc, "a.elf")?)?;
     let mut contents = Items::new(alloc);
-    contents.push(Bytes::from_vec(thin_file(alloc, HOME, &SIZES, &CODE)?))?;
+    contents.push(Bytes::from_vec(file))?;
     Ok(MemFiles::new(alloc, names, contents, Items::new(alloc)))
 }
 
@@ -133,18 +135,19 @@ fn sink_of(alloc: Global, fails: bool) -> Result<MemSink, AllocError> {
     MemSink::new(alloc, 4096, numbers).map_err(|_| AllocError)
 }
 
-/// What a command gives over a sink that may fail: the answer, and what each sink gained.
-fn answer<R: Threads + Sync>(
+/// What a command gives over this file and a sink that may fail: the answer, and what each sink gained.
+fn answer_of<R: Threads + Sync>(
     rt: &R,
     alloc: Global,
     words: &[&str],
+    file: Vec<u8>,
     fails: bool,
 ) -> Result<(Done, Vec<u8>, Vec<u8>), AllocError> {
     let mut texts = Vec::new(alloc);
     for word in words {
         texts.push(String::from_str(alloc, word)?)?;
     }
-    let mut files = files_of(alloc)?;
+    let mut files = files_of(alloc, file)?;
     let mut out = sink_of(alloc, fails)?;
     let mut report = sink_of(alloc, false)?;
     let seed = [0; 32];
@@ -152,6 +155,62 @@ fn answer<R: Threads + Sync>(
     let written = Vec::from_slice(alloc, out.content())?;
     let told = Vec::from_slice(alloc, report.content())?;
     Ok((done, written, told))
+}
+
+/// The same over the first guest's file.
+fn answer<R: Threads + Sync>(
+    rt: &R,
+    alloc: Global,
+    words: &[&str],
+    fails: bool,
+) -> Result<(Done, Vec<u8>, Vec<u8>), AllocError> {
+    let file = thin_file(alloc, HOME, &SIZES, &CODE)?;
+    answer_of(rt, alloc, words, file, fails)
+}
+
+/// The list of the first guest's file.
+const LIST: &str = "accepted functions 2 code 68 mapped 68 entry f0
+f0 0x10000 size 60 start
+f1 0x1003c size 8 three
+";
+
+/// Checks of the first guest's file: as it is, with a symbol of `three` that has no size, with one that starts too
+/// early, and with the flag of compressed instructions.
+#[test]
+fn checks_of_patched_files(rt: HostRuntime) -> Result<(), Fail> {
+    let overlap = "shuffler: refused: split Overlap at 0x10038\n";
+    let flags = "shuffler: refused: elf Flags\n";
+    let cases: [(Patch, u8, &str, &str); 4] = [
+        ((0, 0, 0), 0, LIST, ""),
+        ((THREE_SYMBOL + 16, 8, 0), 0, LIST, ""),
+        ((THREE_SYMBOL + 8, 8, 0x1_0038), 12, "", overlap),
+        ((48, 4, 1), 12, "", flags),
+    ];
+    for (one, status, out, report) in cases {
+        let mut file = first_file(rt.alloc())?;
+        patch(&mut file, one);
+        let (done, written, told) = answer_of(&rt, rt.alloc(), &["check", "a.elf"], file, false)?;
+        assert_eq!(rt; done.status, status);
+        assert_eq!(rt; written.as_slice(), out.as_bytes());
+        assert_eq!(rt; told.as_slice(), report.as_bytes());
+    }
+    Ok(())
+}
+
+#[test]
+fn checks_of_cut_files(rt: HostRuntime) -> Result<(), Fail> {
+    let short = "shuffler: refused: elf Short\n";
+    let tables = "shuffler: refused: elf Tables\n";
+    for (size, report) in [(0, short), (63, short), (4000, tables)] {
+        let mut file = first_file(rt.alloc())?;
+        file.truncate(size);
+        let words = ["check", "a.elf"];
+        let (done, written, told) = answer_of(&rt, rt.alloc(), &words, file, false)?;
+        assert_eq!(rt; done.status, 12);
+        assert_eq!(rt; written.len(), 0);
+        assert_eq!(rt; told.as_slice(), report.as_bytes());
+    }
+    Ok(())
 }
 
 #[test]

@@ -1,0 +1,56 @@
+-- What an accepted file says of its tables and its memory.
+use Rattle.std.proofs.Common.{◌≡◌, ℕ, ◌≤◌, ◌<◌, ◌^◌, List, Option, Some, None, Err, cond, refl, sym, ap, ◌∙◌, subst, arith, inl, inr}
+use Rattle.std.specs.Prelude.{nat_lt}
+use Rattle.std.proofs.lemmas.Bool.{cases_Bool}
+use Rattle.std.proofs.lemmas.Bool.Decides.{nat_tests}
+use Rattle.sh_types.specs.declared.elf.Elf.{Elf}
+use Rattle.sh_types.specs.declared.elf.Segment.{Segment}
+use Rattle.sh_types.specs.declared.refusals.ElfFault.{ElfFault}
+use Rattle.sh_types.specs.declared.refusals.ElfFault.TheVariants.{Rule}
+use Rattle.sh_types.specs.declared.refusals.ElfRule.{ElfRule}
+use Rattle.sh_types.specs.declared.refusals.LimitKind.{LimitKind}
+use Rattle.sh_types.specs.declared.refusals.LimitKind.TheVariants as kind
+use Rattle.sh_types.specs.declared.refusals.LoadFault.{LoadFault}
+use Rattle.sh_types.specs.declared.refusals.LoadFault.TheVariants as load
+use Rattle.sh_types.specs.Accepted.{Accepts, above, by_rule, mapped_by, or_later}
+use Rattle.sh_types.specs.Elf.{segments_of}
+use Rattle.sh_types.specs.ElfRules.{Reads, elf_of, first_failing, symbol_rules, table_rules}
+use Rattle.guest_image.specs.Stages.{symbol_refusal}
+use Rattle.guest_image.proofs.Refusing.{whole_refusal}
+
+both_none : (a later : Option LoadFault) → or_later a later ≡ None → (a ≡ None) × (later ≡ None)
+both_none None later h = (refl, h)
+both_none (Some fault) later h = absurd (cc)
+
+no_rule : (rule : Option ElfRule) → by_rule rule ≡ None → rule ≡ None
+no_rule None h = refl
+no_rule (Some rule) h = absurd (cc)
+
+some_none : (fault : LoadFault) → Some fault ≡ None → ⊥
+some_none fault h = absurd (cc)
+
+within : (kind : LimitKind) (most value : ℕ) → above kind most value ≡ None → value ≤ most
+within kind most value h = elim (cases_Bool (nat_lt most value)) [
+  | inl t ↦ absurd (some_none (load.Limit kind value) (sym (ap (λ c. cond c (Some (load.Limit kind value)) None) t) ∙ h))
+  | inr f ↦ grind (arith, nat_tests, f)
+]
+
+parts : (b : List ℕ) → Accepts b → (by_rule (first_failing table_rules b) ≡ None) × (symbol_refusal b ≡ None)
+parts b accepts = both_none (by_rule (first_failing table_rules b)) (symbol_refusal b) (sym (whole_refusal b) ∙ accepts)
+
+tables_hold : (b : List ℕ) → Accepts b → first_failing table_rules b ≡ None
+tables_hold b accepts = no_rule (first_failing table_rules b) (parts b accepts).0
+
+few_mapped : (b : List ℕ) → symbol_refusal b ≡ None → mapped_by (segments_of b) ≤ 67108864
+unfolding symbol_refusal
+few_mapped b h = within kind.Mapped 67108864 (mapped_by (segments_of b)) (both_none _ _ (both_none (by_rule (first_failing symbol_rules b)) _ h).1).0
+
+pub memory_fits : (b : List ℕ) (segments : List Segment) → segments ≡ segments_of b → Accepts b → mapped_by segments < 2 ^ 64
+memory_fits b segments e accepts = let few = few_mapped b (parts b accepts).1 in rw e (omega (arith, few))
+
+-- reading the tables of an accepted file finds no rule that fails
+pub no_rule_fails : (b : List ℕ) (fault : ElfFault) (rule : ElfRule) → Accepts b → fault ≡ Rule rule → Reads {A = Elf} (Err fault) (first_failing table_rules b) (elf_of b) → ⊥
+no_rule_fails b fault rule accepts e reads =
+    let hold = tables_hold b accepts in
+    let fails : first_failing table_rules b ≡ Some rule = subst (λ (f : ElfFault). Reads {A = Elf} (Err f) (first_failing table_rules b) (elf_of b)) e reads in
+    absurd (cc)
