@@ -40,12 +40,14 @@ fn split_fault(fault: SplitFault) -> LoadFault
     }
 }
 
+/// The tables, or what the rules on them refuse.
 fn tables(alloc: Global, bytes: &[u8]) -> Result<Elf, LoadFault>
     ensures { Passes result (by_rule (first_failing table_rules bytes.now)) (λ elf. IsReadFrom elf bytes.now) }
 {
     read_elf(alloc, bytes).map_err(elf_fault)
 }
 
+/// The symbols, or what the rules on them refuse.
 fn named_symbols(alloc: Global, bytes: &[u8], elf: &Elf) -> Result<Items<Symbol>, LoadFault>
     requires { IsReadFrom elf.now bytes.now }
     ensures { Passes result (by_rule (first_failing symbol_rules bytes.now)) (λ found. found ≡ symbols_of bytes.now) }
@@ -53,6 +55,7 @@ fn named_symbols(alloc: Global, bytes: &[u8], elf: &Elf) -> Result<Items<Symbol>
     symbols(alloc, elf, bytes).map_err(elf_fault)
 }
 
+/// The functions, or the one that splitting refuses.
 fn split_functions(
     alloc: Global,
     elf: &Elf,
@@ -65,6 +68,7 @@ fn split_functions(
     split(alloc, symbols, &elf.sections, elf.entry).map_err(split_fault)
 }
 
+/// Refuses too many functions, then too large ones.
 #[tactic(auto, unfolding(crate::specs::Stages::limit_refusal))]
 fn within_limits(functions: &[Function]) -> Result<(), LoadFault>
     ensures { Passes result (limit_refusal functions.now) (λ _. length functions.now ≤ 16384) }
@@ -73,7 +77,7 @@ fn within_limits(functions: &[Function]) -> Result<(), LoadFault>
     limited_code(functions)
 }
 
-/// Splits a file into functions, and refuses too many and too large ones.
+/// The functions, or what splitting and the limits on functions refuse.
 #[tactic(auto, unfolding(crate::specs::Stages::function_refusal))]
 fn few_functions(
     alloc: Global,
@@ -89,6 +93,7 @@ fn few_functions(
     Ok(functions)
 }
 
+/// The functions of a file whose tables hold, or the first refusal behind those of the tables.
 #[tactic(auto, unfolding(crate::specs::Stages::symbol_refusal))]
 fn functions_of(alloc: Global, bytes: &[u8], elf: &Elf) -> Result<Items<Function>, LoadFault>
     requires { IsReadFrom elf.now bytes.now }

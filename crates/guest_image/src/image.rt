@@ -1,9 +1,9 @@
 //! The image of an accepted file.
-ghost use Rattle.std.specs.Prelude.{◌≡◌, ◌≤◌, IfOk, None, length, unwrap_or};
-ghost use Rattle.sh_types.specs.Accepted.{codes_in_order, file_functions, file_regions, filled_in_order, loaded_image};
+ghost use Rattle.std.specs.Prelude.{◌≡◌, ◌≤◌, IfOk, length, unwrap_or};
+ghost use Rattle.sh_types.specs.Accepted.{codes_in_order, file_regions, loaded_image};
 ghost use Rattle.sh_types.specs.ElfRules.{IsReadFrom};
 ghost use Rattle.sh_types.specs.Image.{number_of, starts_of};
-ghost use Rattle.guest_image.specs.Order.{AreApart, EndsLow};
+ghost use Rattle.guest_image.specs.Order.{AreApart};
 ghost use Rattle.guest_image.specs.Stages.{IsAccepted};
 
 use crate::accepted::AcceptedFile;

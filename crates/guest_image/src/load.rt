@@ -22,7 +22,8 @@ use std::thread::Threads;
 /// - `Limit` with `Code`: the functions have more than 524,288 bytes.
 ///
 /// `NoMemory` says nothing of the file. The image of an accepted file takes the memory of its segments, and the lists
-/// beside it a few times the file's size. The time is that of these bytes, and of sorting the tables.
+/// beside it a few times the file's size. The time is that of these bytes, and of sorting the tables. `_rt` is not used:
+/// no thread is started.
 pub fn load_image<R: Threads + Sync>(
     _rt: &R,
     alloc: Global,

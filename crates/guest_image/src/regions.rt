@@ -1,5 +1,5 @@
 //! The readable bytes of a file: its segments without their code, and the first stack.
-ghost use Rattle.std.specs.Prelude.{◌≡◌, ◌∷◌, ◌++◌, [], ◌+◌, ◌<◌, ◌≤◌, ◌^◌, All, IfOk, OnOk, replicate};
+ghost use Rattle.std.specs.Prelude.{◌≡◌, ◌∷◌, ◌++◌, [], ◌<◌, ◌≤◌, All, IfOk, OnOk, replicate};
 ghost use Rattle.std.specs.List.Sorted.{IsNonDecreasingBy};
 ghost use Rattle.load_law.specs.Placed.{IsPlaced};
 ghost use Rattle.sh_types.specs.declared.elf.Head.{Head};
