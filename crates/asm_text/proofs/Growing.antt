@@ -1,14 +1,15 @@
 -- Items that grow by the statements of a line.
-use Rattle.std.proofs.Common.{◌≡◌, ℕ, ◌<◌, ◌≤◌, Bool, true, false, List, [], ◌∷◌, ◌++◌, length, refl, sym, ap, ◌∙◌, append_assoc, arith, add-one}
+use Rattle.std.proofs.Common.{◌≡◌, ℕ, ◌<◌, ◌≤◌, Bool, true, false, List, [], ◌∷◌, ◌++◌, length, refl, sym, ap, subst, ◌∙◌, append_assoc, arith, add-one}
 use Rattle.std.specs.Prelude.{Option, Some, None, Result, Ok, Err, map, option_map, if◌then◌else◌}
 use Rattle.std.proofs.lemmas.List.{append-nil}
 use Rattle.asm_text.specs.declared.statements.Statement.{Statement}
 use Rattle.asm_text.specs.declared.statements.Item.{Item}
 use Rattle.asm_text.specs.declared.statements.Unread.{Unread}
 use Rattle.asm_text.specs.declared.statements.Unread.TheVariants.{NoMemory, Form}
-use Rattle.asm_text.specs.Characters.{cut, led}
+use Rattle.asm_text.specs.declared.statements.Statement.TheVariants as statement
+use Rattle.asm_text.specs.Characters.{cut, led, trimmed}
 use Rattle.asm_text.specs.Numbers.{◌>>=◌}
-use Rattle.asm_text.specs.Statements.{parts, in_front, each}
+use Rattle.asm_text.specs.Statements.{parts, in_front, each, alone_in, label_of, unlabelled, statement_of}
 use Rattle.asm_text.specs.Reading.{Fails, Gives, Grows, item, extended}
 
 pub one_more : (old : List Item) (line : ℕ) (s : Statement) → extended old line (Some (s ∷ [])) ≡ Some (old ++ item line s ∷ [])
@@ -100,52 +101,80 @@ unfolding cut parts
 parts_whole test [] e = refl
 parts_whole test (c ∷ cs) e = whole_if (test c) test c cs (cut test cs) (λ h. parts_whole test cs h) e
 
+-- what is behind a cut is shorter
+pub shorter_cut : (test : ℕ → Bool) (text : List ℕ) (front rest : List ℕ) → ◌≡◌ {A = Option (List ℕ × List ℕ)} (Some (front, rest)) (cut test text) → length rest < length text
+shorter_cut test text front rest e = cut_shorter test text front rest (sym e)
+
 -- ---- values
 
-each_one : {A : Type 0} (read : List ℕ → Option A) (text : List ℕ) (texts : List (List ℕ)) (x : A) → read text ≡ Some x
-    → each read (text ∷ texts) ≡ (each read texts >>= λ xs. Some (x ∷ xs))
+each_first : {A : Type 0} (read : List ℕ → Option A) (text : List ℕ) (texts : List (List ℕ)) → each read (text ∷ texts) ≡ (read text >>= λ x. each read texts >>= λ xs. Some (x ∷ xs))
 unfolding each
-each_one read text texts x e = rw e refl
+each_first read text texts = refl
 
-each_none : {A : Type 0} (read : List ℕ → Option A) (text : List ℕ) (texts : List (List ℕ)) → read text ≡ None → each read (text ∷ texts) ≡ None
+bind_map : (o : Option Statement) → (o >>= λ x. Some (x ∷ [])) ≡ alone_in o
+bind_map None = refl
+bind_map (Some x) = refl
+
+each_last : (read : List ℕ → Option Statement) (text : List ℕ) → each read (text ∷ []) ≡ alone_in (read text)
 unfolding each
-each_none read text texts e = rw e refl
+each_last read text = bind_map (read text)
+
+then_each : (old mid : List Item) (line : ℕ) (first : Option Statement) (others : Option (List Statement)) → extended old line (alone_in first) ≡ Some mid
+    → extended mid line others ≡ extended old line (first >>= λ x. others >>= λ xs. Some (x ∷ xs))
+unfolding extended
+then_each old mid line None others e = cc
+then_each old mid line (Some s) others e =
+    let m : mid ≡ old ++ item line s ∷ [] = cc in
+    ap (λ (w : List Item). extended w line others) m ∙ behind_one old line s others
 
 -- a value is read, and others follow
-pub value_then : (read : List ℕ → Option Statement) (old mid : List Item) (line : ℕ) (text front rest : List ℕ) (s : Statement) (test : ℕ → Bool) (total : Option (List Item))
-    → cut test text ≡ Some (front, rest) → read front ≡ Some s → extended old line (Some (s ∷ [])) ≡ Some mid
+pub value_then : (read : List ℕ → Option Statement) (old mid : List Item) (line : ℕ) (test : ℕ → Bool) (text front rest : List ℕ) (total : Option (List Item))
+    → ◌≡◌ {A = Option (List ℕ × List ℕ)} (Some (front, rest)) (cut test text) → extended old line (alone_in (read front)) ≡ Some mid
     → extended old line (each read (parts test text)) ≡ total → extended mid line (each read (parts test rest)) ≡ total
-unfolding extended
-value_then read old mid line text front rest s test total e r m so_far =
-    let same : mid ≡ old ++ item line s ∷ [] = cc in
-    let one : each read (parts test text) ≡ (each read (parts test rest) >>= λ xs. Some (s ∷ xs)) = ap (each read) (parts_cut test text front rest e) ∙ each_one read front (parts test rest) s r in
-    ap (λ (w : List Item). extended w line (each read (parts test rest))) same
-    ∙ behind_one old line s (each read (parts test rest)) ∙ sym (ap (extended old line) one) ∙ so_far
+value_then read old mid line test text front rest total e m so_far =
+    let one : each read (parts test text) ≡ (read front >>= λ x. each read (parts test rest) >>= λ xs. Some (x ∷ xs)) = ap (each read) (parts_cut test text front rest (sym e)) ∙ each_first read front (parts test rest) in
+    then_each old mid line (read front) (each read (parts test rest)) m ∙ sym (ap (extended old line) one) ∙ so_far
+
+lone_none : (o : Option Statement) → alone_in o ≡ None → o ≡ None
+lone_none None e = refl
+lone_none (Some x) e = cc
+
+none_first : {A : Type 0} (read : List ℕ → Option A) (text : List ℕ) (texts : List (List ℕ)) → read text ≡ None → each read (text ∷ texts) ≡ None
+unfolding each
+none_first read text texts e = rw e refl
 
 -- no value is read
-pub value_fails : (read : List ℕ → Option Statement) (e : Unread) (old : List Item) (line : ℕ) (text front rest : List ℕ) (test : ℕ → Bool) (whole : Option (List Statement)) (fresh : List Item)
-    → cut test text ≡ Some (front, rest) → Fails e (read front)
+pub value_fails : (read : List ℕ → Option Statement) (e : Unread) (old fresh : List Item) (line : ℕ) (test : ℕ → Bool) (text front rest : List ℕ) (whole : Option (List Statement))
+    → ◌≡◌ {A = Option (List ℕ × List ℕ)} (Some (front, rest)) (cut test text) → Fails e (alone_in (read front))
     → extended old line (each read (parts test text)) ≡ extended fresh line whole → Fails e whole
-unfolding extended
-value_fails read NoMemory old line text front rest test whole fresh e f so_far = tt
-value_fails read Form old line text front rest test whole fresh e f so_far =
-    let one : each read (parts test text) ≡ None = ap (each read) (parts_cut test text front rest e) ∙ each_none read front (parts test rest) f in
+value_fails read NoMemory old fresh line test text front rest whole e f so_far = tt
+value_fails read Form old fresh line test text front rest whole e f so_far =
+    let one : each read (parts test text) ≡ None = ap (each read) (parts_cut test text front rest (sym e)) ∙ none_first read front (parts test rest) (lone_none (read front) f) in
     none_of fresh line whole (sym so_far ∙ (ap (extended old line) one ∙ extended_none old line))
 
 -- the last value
-pub value_last : {V : Type 0} (read : List ℕ → Option Statement) (old new fresh : List Item) (line : ℕ) (text : List ℕ) (s : Statement) (test : ℕ → Bool) (whole : Option (List Statement)) (r : Result V Unread)
-    → cut test text ≡ None → read text ≡ Some s → Grows old new line r (Some (s ∷ []))
+pub value_last : {V : Type 0} (read : List ℕ → Option Statement) (old new fresh : List Item) (line : ℕ) (test : ℕ → Bool) (text : List ℕ) (whole : Option (List Statement)) (r : Result V Unread)
+    → None ≡ cut test text → Grows old new line r (alone_in (read text))
     → extended old line (each read (parts test text)) ≡ extended fresh line whole → Grows fresh new line r whole
-unfolding each
-value_last read old new fresh line text s test whole (Ok _) e f g so_far =
-    let one : each read (parts test text) ≡ Some (s ∷ []) = ap (each read) (parts_whole test text e) ∙ rw f refl in
+value_last read old new fresh line test text whole (Ok _) e g so_far =
+    let one : each read (parts test text) ≡ alone_in (read text) = ap (each read) (parts_whole test text (sym e)) ∙ each_last read text in
     sym so_far ∙ ap (extended old line) one ∙ g
-value_last read old new fresh line text s test whole (Err NoMemory) e f g so_far = tt
-value_last read old new fresh line text s test whole (Err Form) e f g so_far = cc
-
-pub last_fails : (read : List ℕ → Option Statement) (e : Unread) (old fresh : List Item) (line : ℕ) (text : List ℕ) (test : ℕ → Bool) (whole : Option (List Statement))
-    → cut test text ≡ None → Fails e (read text) → extended old line (each read (parts test text)) ≡ extended fresh line whole → Fails e whole
-last_fails read NoMemory old fresh line text test whole e f so_far = tt
-last_fails read Form old fresh line text test whole e f so_far =
-    let one : each read (parts test text) ≡ None = ap (each read) (parts_whole test text e) ∙ each_none read text [] f in
+value_last read old new fresh line test text whole (Err NoMemory) e g so_far = tt
+value_last read old new fresh line test text whole (Err Form) e g so_far =
+    let one : each read (parts test text) ≡ None = ap (each read) (parts_whole test text (sym e)) ∙ (each_last read text ∙ g) in
     none_of fresh line whole (sym so_far ∙ (ap (extended old line) one ∙ extended_none old line))
+
+-- ---- a label, and what stands behind it
+
+pub labelled : {V : Type 0} (text t front rest tail name : List ℕ) (old mid new : List Item) (line : ℕ) (r : Result V Unread) → t ≡ trimmed text → Some (front, rest) ≡ label_of t → name ≡ front
+    → extended old line (Some (statement.Label name ∷ [])) ≡ Some mid → tail ≡ trimmed rest → Grows mid new line r (unlabelled tail) → Grows old new line r (statement_of text)
+unfolding statement_of
+labelled text t front rest tail name old mid new line r same e n m l g =
+    let found : label_of (trimmed text) ≡ Some (front, rest) = sym (ap label_of same) ∙ sym e in
+    let base : Grows old new line r (unlabelled tail >>= λ ss. Some (statement.Label name ∷ ss)) = one_then old mid new line (statement.Label name) r (unlabelled tail) m g in
+    let behind : Grows old new line r (unlabelled (trimmed rest) >>= λ ss. Some (statement.Label name ∷ ss)) = subst (λ (w : List ℕ). Grows old new line r (unlabelled w >>= λ ss. Some (statement.Label name ∷ ss))) l base in
+    let whole : Grows old new line r (unlabelled (trimmed rest) >>= λ ss. Some (statement.Label front ∷ ss)) = subst (λ (w : List ℕ). Grows old new line r (unlabelled (trimmed rest) >>= λ ss. Some (statement.Label w ∷ ss))) n behind in
+    subst (λ (o : Option (List ℕ × List ℕ)). Grows old new line r (elim o [
+      None ↦ unlabelled (trimmed text)
+    | Some x ↦ (unlabelled (trimmed x.1) >>= λ others. Some (statement.Label x.0 ∷ others))
+    ])) (sym found) whole

@@ -89,14 +89,18 @@ fn line_items(alloc: Global, line: u32, text: &[u8]) -> Result<Vec<Item>, Unread
 {
     let mut items = Vec::new(alloc);
     let mut rest = text;
-    loop {
+    'pieces: loop {
         let (piece, behind) = first_piece(rest);
-        let Some(next) = behind else {
-            push_statement(alloc, &mut items, line, piece)?;
-            return Ok(items);
-        };
-        push_statement(alloc, &mut items, line, piece)?;
-        rest = next;
+        match behind {
+            Some(next) => {
+                push_statement(alloc, &mut items, line, piece)?;
+                rest = next;
+            }
+            None => {
+                push_statement(alloc, &mut items, line, piece)?;
+                return Ok(items);
+            }
+        }
     }
 }
 
@@ -129,7 +133,7 @@ pub fn read(alloc: Global, text: &[u8]) -> Result<Source, NoMemory>
     let mut items = Vec::new(alloc);
     let mut rest = text;
     let mut line = 1;
-    loop {
+    'lines: loop {
         let (first, behind) = first_line(rest);
         if has_foreign(first) {
             return Ok(stopped(items, line, AsmRule::Text));
@@ -139,14 +143,18 @@ pub fn read(alloc: Global, text: &[u8]) -> Result<Source, NoMemory>
             Err(Unread::Form) => return Ok(stopped(items, line, AsmRule::Form)),
             Err(Unread::NoMemory) => return Err(NoMemory),
         }
-        let Some(next) = behind else {
-            return Ok(Source {
-                items: Items::from_vec(items),
-                fault: None,
-            });
-        };
-        rest = next;
-        line += 1;
+        match behind {
+            Some(next) => {
+                rest = next;
+                line += 1;
+            }
+            None => {
+                return Ok(Source {
+                    items: Items::from_vec(items),
+                    fault: None,
+                });
+            }
+        }
     }
 }
 

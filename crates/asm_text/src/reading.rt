@@ -3,7 +3,7 @@ ghost use Rattle.std.specs.Prelude.{◌≡◌, ◌∷◌, [], false, option_map,
 ghost use Rattle.asm_text.specs.Numbers.{quoted, string_of};
 ghost use Rattle.asm_text.specs.Mnemonics.{shape_of};
 ghost use Rattle.asm_text.specs.Reading.{Gives, Grows};
-ghost use Rattle.asm_text.specs.Statements.{value_of, values_of, body_of, unlabelled as unlabelled_of, label_of, statement_of};
+ghost use Rattle.asm_text.specs.Statements.{value_of, values_of, alone_in, body_of, unlabelled as unlabelled_of, label_of, statement_of};
 
 use crate::characters::{cut, first_word, is_name, trimmed};
 use crate::forms::plain;
@@ -86,7 +86,21 @@ fn push(items: &mut Vec<Item>, line: u32, statement: Statement) -> Result<(), Un
     Ok(())
 }
 
-#[tactic(auto, using(crate::proofs::Growing::cut_shorter, crate::proofs::Growing::value_then, crate::proofs::Growing::value_fails, crate::proofs::Growing::value_last, crate::proofs::Growing::last_fails), unfolding(crate::specs::Statements::values_of))]
+fn push_value(
+    alloc: Global,
+    items: &mut Vec<Item>,
+    line: u32,
+    width: u8,
+    names: bool,
+    text: &[u8],
+) -> Result<(), Unread>
+    ensures { Grows items.old.items items.new.items line result (alone_in (value_of width names text.now)) }
+{
+    let statement = value(alloc, width, names, text)?;
+    push(items, line, statement)
+}
+
+#[tactic(auto, using(crate::proofs::Growing::shorter_cut), unfolding(crate::specs::Statements::values_of))]
 fn push_values(
     alloc: Global,
     items: &mut Vec<Item>,
@@ -98,13 +112,15 @@ fn push_values(
     ensures { Grows items.old.items items.new.items line result (values_of width names text.now) }
 {
     let mut rest = text;
-    while let Some((first, behind)) = cut(rest, b',') {
-        let statement = value(alloc, width, names, first)?;
-        push(items, line, statement)?;
-        rest = behind;
+    'values: loop {
+        match cut(rest, b',') {
+            Some((first, behind)) => {
+                push_value(alloc, items, line, width, names, first)?;
+                rest = behind;
+            }
+            None => return push_value(alloc, items, line, width, names, rest),
+        }
     }
-    let statement = value(alloc, width, names, rest)?;
-    push(items, line, statement)
 }
 
 #[tactic(auto, unfolding(crate::specs::Statements::body_of))]
@@ -164,7 +180,7 @@ fn label(text: &[u8]) -> Option<(&[u8], &[u8])>
 }
 
 /// Adds the statements of one text of a line.
-#[tactic(auto, using(crate::proofs::Growing::one_then), unfolding(crate::specs::Statements::statement_of))]
+#[tactic(auto, unfolding(crate::specs::Statements::statement_of))]
 pub fn push_statement(
     alloc: Global,
     items: &mut Vec<Item>,

@@ -4,8 +4,8 @@ use Rattle.asm_text.specs.Statements.{parts}
 use Rattle.asm_text.specs.Source.{read_lines, source_of}
 use Rattle.asm_text.proofs.lines.read.Given as goal
 
-abbrev pub invariant-loop-next : goal.invariant-loop-next
-invariant-loop-next l = record { read : read_lines l.items.items l.line (parts (λ (c : ℕ). c == 10) l.rest) ≡ source_of l.text; small : l.line + length l.rest ≤ length l.text + 1 }
+abbrev pub invariant-lines : goal.invariant-lines
+invariant-lines l = record { read : read_lines l.items.items l.line (parts (λ (c : ℕ). c == 10) l.rest) ≡ source_of l.text; small : l.line + length l.rest ≤ length l.text + 1 }
 
-abbrev pub decreases-loop-next : goal.decreases-loop-next
-decreases-loop-next l = length l.rest
+abbrev pub decreases-lines : goal.decreases-lines
+decreases-lines l = length l.rest
