@@ -175,6 +175,6 @@ labelled text t front rest tail name old mid new line r same e n m l g =
     let behind : Grows old new line r (unlabelled (trimmed rest) >>= λ ss. Some (statement.Label name ∷ ss)) = subst (λ (w : List ℕ). Grows old new line r (unlabelled w >>= λ ss. Some (statement.Label name ∷ ss))) l base in
     let whole : Grows old new line r (unlabelled (trimmed rest) >>= λ ss. Some (statement.Label front ∷ ss)) = subst (λ (w : List ℕ). Grows old new line r (unlabelled (trimmed rest) >>= λ ss. Some (statement.Label w ∷ ss))) n behind in
     subst (λ (o : Option (List ℕ × List ℕ)). Grows old new line r (elim o [
-      None ↦ unlabelled (trimmed text)
-    | Some x ↦ (unlabelled (trimmed x.1) >>= λ others. Some (statement.Label x.0 ∷ others))
+      | None ↦ unlabelled (trimmed text)
+      | Some x ↦ (unlabelled (trimmed x.1) >>= λ others. Some (statement.Label x.0 ∷ others))
     ])) (sym found) whole

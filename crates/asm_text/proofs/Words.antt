@@ -45,8 +45,8 @@ unlisted [] name h bad = refl
 unlisted (row ∷ rows) name h bad =
     let p : (is_text row.0 ≡ true) × (are_text rows ≡ true) = both (is_text row.0) (are_text rows) h in
     passed (bytes_eq name row.0) row.1 (named rows name)
-        (λ e. bad (same_utf8 name row.0 ((bytes_eq-Decides name row.0).0 e) (utf8_text row.0 p.0)))
-        (unlisted rows name p.1 bad)
+    (λ e. bad (same_utf8 name row.0 ((bytes_eq-Decides name row.0).0 e) (utf8_text row.0 p.0)))
+    (unlisted rows name p.1 bad)
 
 first_none : {A : Type 0} (a b : Option A) → a ≡ None → b ≡ None → first_of a b ≡ None
 first_none a b e f = rw e f
@@ -69,7 +69,7 @@ no_instruction name bad =
     first_none _ _ (mapped_none _ _ (unlisted atomic_rows name refl bad)) (
     first_none _ _ (mapped_none _ _ (unlisted reserve_rows name refl bad)) (
     first_none _ _ (mapped_none _ _ (unlisted bare_rows name refl bad))
-        (mapped_none _ _ (unlisted branch_rows name refl bad)))))))))
+    (mapped_none _ _ (unlisted branch_rows name refl bad)))))))))
 
 pub no_shape : (name : List ℕ) → (IsUtf8 name → ⊥) → shape_of name ≡ None
 unfolding shape_of plain_rows naming_rows value_rows

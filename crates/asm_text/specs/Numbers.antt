@@ -32,9 +32,9 @@ unfoldable pub magnitude : List ℕ → Option ℕ
 magnitude text =
     if length text == 0 then None
     else (if slice_index text 0 == 48
-        then (if length text == 1 then Some 0
-            else (if (slice_index text 1 == 120) && nat_lt 2 (length text) then digits 16 0 (drop 2 text) else None))
-        else digits 10 0 text)
+    then (if length text == 1 then Some 0
+    else (if (slice_index text 1 == 120) && nat_lt 2 (length text) then digits 16 0 (drop 2 text) else None))
+    else digits 10 0 text)
 
 -- a number, with a `-` in front or without
 unfoldable pub signed : List ℕ → Option ℤ

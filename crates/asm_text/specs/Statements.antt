@@ -261,6 +261,6 @@ label_of text = do
 unfoldable pub statement_of : List ℕ → Option (List Statement)
 statement_of text =
     elim (label_of (trimmed text)) [
-      None ↦ unlabelled (trimmed text)
-    | Some x ↦ (unlabelled (trimmed x.1) >>= λ others. Some (statement.Label x.0 ∷ others))
+      | None ↦ unlabelled (trimmed text)
+      | Some x ↦ (unlabelled (trimmed x.1) >>= λ others. Some (statement.Label x.0 ∷ others))
     ]

@@ -140,9 +140,15 @@ pub fn plain(shape: Plain, text: &[u8]) -> Option<Statement>
         Plain::ToRegister => to_register_form(text),
         Plain::Literal => literal_form(text),
         Plain::EndFunction => alone(Statement::EndFunction, text),
-        Plain::Raw => Some(Statement::Raw { value: number(text)? }),
-        Plain::Nops => Some(Statement::Nops { count: number(text)? }),
-        Plain::Zero => Some(Statement::Zero { count: number(text)? }),
+        Plain::Raw => Some(Statement::Raw {
+            value: number(text)?,
+        }),
+        Plain::Nops => Some(Statement::Nops {
+            count: number(text)?,
+        }),
+        Plain::Zero => Some(Statement::Zero {
+            count: number(text)?,
+        }),
         Plain::Align => Some(Statement::Align { to: number(text)? }),
     }
 }

@@ -17,3 +17,6 @@ mod statements;
 pub use faults::{AsmFault, AsmRule, LineFault};
 pub use lines::{Source, read};
 pub use statements::{Item, Statement};
+
+#[cfg(test)]
+mod tests;

@@ -238,9 +238,18 @@ pub fn values(name: &str) -> Option<Shape>
     ensures { result ≡ named value_rows name.now }
 {
     let found = match name {
-        ".byte" => Shape::Values { width: 1, names: false },
-        ".word" => Shape::Values { width: 4, names: true },
-        ".quad" => Shape::Values { width: 8, names: true },
+        ".byte" => Shape::Values {
+            width: 1,
+            names: false,
+        },
+        ".word" => Shape::Values {
+            width: 4,
+            names: true,
+        },
+        ".quad" => Shape::Values {
+            width: 8,
+            names: true,
+        },
         ".ascii" => Shape::Ascii,
         _ => return None,
     };
@@ -252,31 +261,49 @@ fn instruction(name: &str) -> Option<Shape>
     ensures { result ≡ instruction_shape name.now }
 {
     if let Some(op) = register_op(name) {
-        return Some(Shape::Plain { shape: Plain::Register { op } });
+        return Some(Shape::Plain {
+            shape: Plain::Register { op },
+        });
     }
     if let Some(op) = immediate_op(name) {
-        return Some(Shape::Plain { shape: Plain::Immediate { op } });
+        return Some(Shape::Plain {
+            shape: Plain::Immediate { op },
+        });
     }
     if let Some(op) = memory_op(name) {
-        return Some(Shape::Plain { shape: Plain::Memory { op } });
+        return Some(Shape::Plain {
+            shape: Plain::Memory { op },
+        });
     }
     if let Some(op) = store_op(name) {
-        return Some(Shape::Plain { shape: Plain::Store { op } });
+        return Some(Shape::Plain {
+            shape: Plain::Store { op },
+        });
     }
     if let Some(op) = upper_op(name) {
-        return Some(Shape::Plain { shape: Plain::Upper { op } });
+        return Some(Shape::Plain {
+            shape: Plain::Upper { op },
+        });
     }
     if let Some(op) = atomic_op(name) {
-        return Some(Shape::Plain { shape: Plain::Atomic { op } });
+        return Some(Shape::Plain {
+            shape: Plain::Atomic { op },
+        });
     }
     if let Some(op) = reserve_op(name) {
-        return Some(Shape::Plain { shape: Plain::Reserve { op } });
+        return Some(Shape::Plain {
+            shape: Plain::Reserve { op },
+        });
     }
     if let Some(op) = bare_op(name) {
-        return Some(Shape::Plain { shape: Plain::Bare { op } });
+        return Some(Shape::Plain {
+            shape: Plain::Bare { op },
+        });
     }
     if let Some(op) = branch_op(name) {
-        return Some(Shape::Naming { shape: Naming::Branch { op } });
+        return Some(Shape::Naming {
+            shape: Naming::Branch { op },
+        });
     }
     None
 }

@@ -60,12 +60,23 @@ pub fn naming(alloc: Global, shape: Naming, text: &[u8]) -> Result<Statement, Un
     match shape {
         Naming::Branch { op } => branch_form(alloc, op, text),
         Naming::BranchZero { op } => branch_zero_form(alloc, op, text),
-        Naming::Entry => Ok(Statement::Entry { name: name(alloc, text)? }),
-        Naming::Function => Ok(Statement::Function { name: name(alloc, text)? }),
+        Naming::Entry => Ok(Statement::Entry {
+            name: name(alloc, text)?,
+        }),
+        Naming::Function => Ok(Statement::Function {
+            name: name(alloc, text)?,
+        }),
         Naming::Jump => jump_form(alloc, text),
-        Naming::ToLabel => Ok(Statement::Jump { rd: 0, target: name(alloc, text)? }),
+        Naming::ToLabel => Ok(Statement::Jump {
+            rd: 0,
+            target: name(alloc, text)?,
+        }),
         Naming::Address => address_form(alloc, text),
-        Naming::Call => Ok(Statement::Call { name: name(alloc, text)? }),
-        Naming::Tail => Ok(Statement::Tail { name: name(alloc, text)? }),
+        Naming::Call => Ok(Statement::Call {
+            name: name(alloc, text)?,
+        }),
+        Naming::Tail => Ok(Statement::Tail {
+            name: name(alloc, text)?,
+        }),
     }
 }

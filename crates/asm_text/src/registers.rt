@@ -3,7 +3,6 @@ ghost use Rattle.std.specs.Prelude.{◌≡◌};
 ghost use Rattle.asm_text.specs.Tables.{named};
 ghost use Rattle.asm_text.specs.Registers.{by_use as by_use_rows, numbered as numbered_rows, register_named as register_named_of};
 
-
 /// The register with this name of the calling convention.
 #[tactic(auto, unfolding(crate::specs::Registers::by_use))]
 fn by_use(name: &str) -> Option<u8>

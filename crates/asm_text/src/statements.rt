@@ -10,27 +10,49 @@ use std::alloc::{AllocError, AllocFailed};
 #[derive(Debug, Drop)]
 pub enum Statement {
     /// `name:`
-    Label { name: SymbolName },
+    Label {
+        name: SymbolName,
+    },
     /// `.entry name`
-    Entry { name: SymbolName },
+    Entry {
+        name: SymbolName,
+    },
     /// `.func name`
-    Function { name: SymbolName },
+    Function {
+        name: SymbolName,
+    },
     /// `.endfunc`
     EndFunction,
     /// `.raw value`
-    Raw { value: i128 },
+    Raw {
+        value: i128,
+    },
     /// `.nops count`
-    Nops { count: i128 },
+    Nops {
+        count: i128,
+    },
     /// A number of `.byte`, `.word` or `.quad`, with its width in bytes.
-    Value { width: u8, value: i128 },
+    Value {
+        width: u8,
+        value: i128,
+    },
     /// A name in `.word` or `.quad`, with its width in bytes.
-    Reference { width: u8, name: SymbolName },
+    Reference {
+        width: u8,
+        name: SymbolName,
+    },
     /// `.zero count`
-    Zero { count: i128 },
+    Zero {
+        count: i128,
+    },
     /// `.ascii`, with the bytes of its string.
-    Ascii { bytes: Bytes },
+    Ascii {
+        bytes: Bytes,
+    },
     /// `.align to`
-    Align { to: i128 },
+    Align {
+        to: i128,
+    },
     /// An instruction whose operands are registers and a number. A field that it lacks is 0.
     Plain {
         op: Op,
@@ -40,7 +62,11 @@ pub enum Statement {
         imm: i128,
     },
     /// `lui` or `auipc`, with the number of its 20 bits.
-    Upper { op: Op, rd: u8, value: i128 },
+    Upper {
+        op: Op,
+        rd: u8,
+        value: i128,
+    },
     /// A branch.
     Branch {
         op: Op,
@@ -49,15 +75,28 @@ pub enum Statement {
         label: SymbolName,
     },
     /// `jal rd, target`
-    Jump { rd: u8, target: SymbolName },
+    Jump {
+        rd: u8,
+        target: SymbolName,
+    },
     /// `li rd, value`
-    Literal { rd: u8, value: i128 },
+    Literal {
+        rd: u8,
+        value: i128,
+    },
     /// `la rd, name`
-    Address { rd: u8, name: SymbolName },
+    Address {
+        rd: u8,
+        name: SymbolName,
+    },
     /// `call name`
-    Call { name: SymbolName },
+    Call {
+        name: SymbolName,
+    },
     /// `tail name`
-    Tail { name: SymbolName },
+    Tail {
+        name: SymbolName,
+    },
 }
 
 /// A statement and the number of its line, from 1 on.
