@@ -1,2 +1,4 @@
 pub mod Places
 pub mod Ranges
+pub mod Seen
+pub mod Words

@@ -3,6 +3,8 @@
 
 mod places;
 mod ranges;
+mod words;
 
-pub use places::{Place, is_open, misplaced_line};
+pub use places::{Place, is_open, misplaced_line, range_line};
 pub use ranges::is_in_range;
+pub use words::{Sequence, instrs};
