@@ -1,1 +1,4 @@
+pub mod Appending
+pub mod Naming
 pub mod Narrow
+pub mod Ranging

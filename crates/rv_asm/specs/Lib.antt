@@ -1,4 +1,7 @@
+pub mod Names
 pub mod Places
 pub mod Ranges
 pub mod Seen
+pub mod Sets
 pub mod Words
+pub mod Writing

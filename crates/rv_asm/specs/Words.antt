@@ -44,8 +44,12 @@ abbrev pub AreInstrs : List Instr → Type 0
 AreInstrs [] = Unit {0}
 AreInstrs (i ∷ is) = IsInstr i × AreInstrs is
 
--- the words of a statement: those of its instructions, the one of `.raw`, and those of `.nops`, ADDI x0, x0, 0
-unfoldable pub words_of : ℤ → Statement → List ℕ
-words_of distance (statement.Raw value) = natural value ∷ []
-words_of distance (statement.Nops count) = replicate (natural count) 0x13
-words_of distance s = map word_of (instrs_of distance s)
+-- the words that stand for themselves: that of `.raw`, and those of `.nops`, ADDI x0, x0, 0
+unfoldable pub plain_words : Statement → List ℕ
+plain_words (statement.Raw value) = natural value ∷ []
+plain_words (statement.Nops count) = replicate (natural count) 0x13
+plain_words _ = []
+
+-- the words of a statement
+abbrev pub words_of : ℤ → Statement → List ℕ
+words_of distance s = plain_words s ++ map word_of (instrs_of distance s)

@@ -1,10 +1,14 @@
 //! The assembler: a source becomes functions, words, data, symbols and the marks of what refers to what.
 #![tactic(auto)]
 
+mod names;
 mod places;
 mod ranges;
 mod words;
+mod writing;
 
+pub use names::{entry_twice_line, name_twice_line};
 pub use places::{Place, is_open, misplaced_line, range_line};
 pub use ranges::is_in_range;
 pub use words::{Sequence, instrs};
+pub use writing::{Unwritten, push_words};

@@ -67,8 +67,9 @@ fn is_misplaced(inside: bool, statement: &Statement) -> bool
     }
 }
 
+/// Whether what follows the statement is in a function.
 #[tactic(auto, unfolding(crate::specs::Places::is_inside_after))]
-fn is_inside_after(inside: bool, statement: &Statement) -> bool
+pub fn is_inside_after(inside: bool, statement: &Statement) -> bool
     ensures { result ≡ is_inside_after_of inside statement.now }
 {
     match statement {
@@ -179,8 +180,10 @@ fn data_size(at: u64, statement: &Statement) -> u64
     }
 }
 
-fn begins(statement: &Statement) -> usize
-    ensures { result ≡ begins_of statement.now }
+/// How many functions the statement begins.
+pub fn begins(statement: &Statement) -> usize
+    ensures value { result ≡ begins_of statement.now }
+    ensures small { result ≤ 1 }
 {
     match statement {
         Statement::Function { .. } => 1,
