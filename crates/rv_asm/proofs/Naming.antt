@@ -2,11 +2,12 @@
 use Rattle.std.proofs.Common.{◌≡◌, ℕ, ◌+◌, ◌<◌, ◌≤◌, Bool, true, false, List, [], ◌∷◌, length, get_or, drop, refl, sym, ap, ◌∙◌, arith}
 use Rattle.std.specs.Prelude.{Option, Some, None, not, ◌==◌, ◌&&◌, ◌||◌, if◌then◌else◌, cond}
 use Rattle.std.specs.Str.{bytes_eq}
-use Rattle.std.specs.Ordering.{Ordering, is_eq, nat_cmp, ordering_then}
-use Rattle.std.specs.Ordering.TheVariants.{Less, Equal, Greater}
+use Rattle.std.specs.Ordering.{is_eq, nat_cmp, ordering_then}
+use Rattle.std.specs.declared.cmp.Ordering.{Ordering}
+use Rattle.std.specs.declared.cmp.Ordering.TheVariants.{Less, Equal, Greater}
 use Rattle.std.specs.Cmp.Lexicographic.{slice_cmp}
 use Rattle.std.specs.BTreeSet.{BTreeSet}
-use Rattle.std.proofs.lemmas.List.{at_drop_more}
+use Rattle.std.proofs.lemmas.List.{at_drop_more, at_drop_all}
 use Rattle.std.proofs.lemmas.Map.Text.{is_eq-slice_cmp}
 use Rattle.std.proofs.lemmas.Bool.Decides.{nat_tests}
 use denote.Ref.{Bor}
@@ -101,5 +102,5 @@ ends old inside functions items i item total lt same fresh h =
     let on : is_taken_by h.keys key ≡ true = sym (key_taken old h.keys key h.held) ∙ not_true (has_key old key) fresh in
     sym (here inside functions h.keys items i item lt same ∙ stop inside functions h.keys item (drop (i + 1) items) on) ∙ h.line
 
-pub ran_out : (old : BTreeSet (ℕ × Bor (List ℕ))) (inside : Bool) (functions : ℕ) (items : List Item) (total : Option ℕ) → items ≡ [] → Held old inside functions items total → None ≡ total
-ran_out old inside functions items total e h = sym (ap (name_twice_line inside functions h.keys) e ∙ none inside functions h.keys) ∙ h.line
+pub ran_out : (old : BTreeSet (ℕ × Bor (List ℕ))) (inside : Bool) (functions : ℕ) (items : List Item) (i : ℕ) (total : Option ℕ) → length items ≤ i → Held old inside functions (drop i items) total → None ≡ total
+ran_out old inside functions items i total le h = sym (at_drop_all (name_twice_line inside functions h.keys) items i le ∙ none inside functions h.keys) ∙ h.line

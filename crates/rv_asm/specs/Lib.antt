@@ -1,4 +1,5 @@
 pub mod Names
+pub mod Passes
 pub mod Places
 pub mod Ranges
 pub mod Seen

@@ -2,12 +2,14 @@
 #![tactic(auto)]
 
 mod names;
+mod passes;
 mod places;
 mod ranges;
 mod words;
 mod writing;
 
 pub use names::{entry_twice_line, name_twice_line};
+pub use passes::first_pass;
 pub use places::{Place, is_open, misplaced_line, range_line};
 pub use ranges::is_in_range;
 pub use words::{Sequence, instrs};

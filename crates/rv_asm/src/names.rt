@@ -75,6 +75,7 @@ fn take_name<'a>(
 }
 
 /// The line of the first name that is defined again in its scope.
+#[tactic(auto, using(crate::proofs::Naming::begun, crate::proofs::Naming::goes_on, crate::proofs::Naming::ends, crate::proofs::Naming::ran_out))]
 pub fn name_twice_line(alloc: Global, items: &[Item]) -> Result<Option<u32>, NoMemory>
     requires { length items.now < 2 ^ 63 }
     ensures { IfOk result (λ line. line ≡ name_twice_line_of false 0 [] items.now) }

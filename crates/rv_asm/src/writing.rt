@@ -101,6 +101,7 @@ fn push_plain(words: &mut Vec<u32>, statement: &Statement) -> Result<(), AllocEr
 
 /// Adds the words of a statement, at this distance from what it names. Where it says Range, an instruction of the
 /// statement is out of the range of its fields, and some words may have been added.
+#[tactic(auto, using(crate::proofs::Appending::behind_plain))]
 pub fn push_words(
     words: &mut Vec<u32>,
     statement: &Statement,
