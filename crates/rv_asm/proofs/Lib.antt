@@ -1,4 +1,5 @@
 pub mod Appending
+pub mod Knowing
 pub mod Naming
 pub mod Narrow
 pub mod Ranging

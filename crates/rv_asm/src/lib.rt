@@ -1,6 +1,7 @@
 //! The assembler: a source becomes functions, words, data, symbols and the marks of what refers to what.
 #![tactic(auto)]
 
+mod known;
 mod names;
 mod passes;
 mod places;
@@ -8,6 +9,7 @@ mod ranges;
 mod words;
 mod writing;
 
+pub use known::first_unknown;
 pub use names::{entry_twice_line, name_twice_line};
 pub use passes::first_pass;
 pub use places::{Place, is_open, misplaced_line, range_line};

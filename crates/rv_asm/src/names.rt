@@ -48,7 +48,8 @@ fn key(inside: bool, functions: usize, statement: &Statement) -> Option<(usize, 
     }
 }
 
-fn define<'a>(
+/// Adds a name to its scope, and says whether it was not there.
+pub fn define<'a>(
     names: &mut BTreeSet<(usize, &'a [u8])>,
     scope: usize,
     name: &'a [u8],
@@ -59,7 +60,8 @@ fn define<'a>(
     Ok(names.insert((scope, name))?)
 }
 
-fn take_name<'a>(
+/// Adds the name that a statement defines, and says whether it was not there.
+pub fn take_name<'a>(
     names: &mut BTreeSet<(usize, &'a [u8])>,
     inside: bool,
     functions: usize,
