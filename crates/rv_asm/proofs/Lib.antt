@@ -2,4 +2,6 @@ pub mod Appending
 pub mod Knowing
 pub mod Naming
 pub mod Narrow
+pub mod Placing
 pub mod Ranging
+pub mod Targeting

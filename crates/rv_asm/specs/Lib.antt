@@ -1,8 +1,10 @@
+pub mod Maps
 pub mod Names
 pub mod Passes
 pub mod Places
 pub mod Ranges
 pub mod Seen
 pub mod Sets
+pub mod Targets
 pub mod Words
 pub mod Writing

@@ -2,11 +2,12 @@
 use Rattle.std.specs.Prelude.{ℕ, nat_lt, nat_le, false, Option, Some, None, List, [], option_map, if◌then◌else◌}
 use Rattle.asm_text.specs.declared.statements.Item.{Item}
 use Rattle.asm_text.specs.declared.faults.AsmRule.{AsmRule}
-use Rattle.asm_text.specs.declared.faults.AsmRule.TheVariants.{Form, Twice}
+use Rattle.asm_text.specs.declared.faults.AsmRule.TheVariants.{Form, Name, Range, Twice}
 use Rattle.asm_text.specs.declared.faults.LineFault.{LineFault}
 use Rattle.asm_text.specs.Source.{Read, fault}
-use Rattle.rv_asm.specs.Names.{entry_twice_line, name_twice_line}
-use Rattle.rv_asm.specs.Places.{misplaced_line}
+use Rattle.rv_asm.specs.Names.{entry_twice_line, name_twice_line, first_unknown}
+use Rattle.rv_asm.specs.Places.{misplaced_line, first_place}
+use Rattle.rv_asm.specs.Ranges.{range_line}
 
 -- the lower of two lines
 abbrev pub lower_line : Option ℕ → Option ℕ → Option ℕ
@@ -36,3 +37,7 @@ first_pass source =
         (earlier (at_line Form (misplaced_line false source.items))
             (at_line Twice (lower_line (entry_twice_line false source.items) (name_twice_line false 0 [] source.items))))
         source.fault
+
+-- The first line with a fault of Name or Range, distances apart, and on it the first of these.
+abbrev pub second_pass : List Item → Option LineFault
+second_pass items = earlier (at_line Name (first_unknown items)) (at_line Range (range_line first_place items))

@@ -34,8 +34,9 @@ pub fn entry_twice_line(items: &[Item]) -> Option<u32>
     None
 }
 
+/// The scope and the name that the statement defines, behind so many functions.
 #[tactic(auto, unfolding(crate::specs::Names::key_of))]
-fn key(inside: bool, functions: usize, statement: &Statement) -> Option<(usize, &[u8])>
+pub fn key(inside: bool, functions: usize, statement: &Statement) -> Option<(usize, &[u8])>
     ensures { option_map (λ k. (k.0, k.1.now)) result ≡ key_of inside functions statement.now }
 {
     match statement {

@@ -1,11 +1,12 @@
 //! The faults of a source, pass by pass.
 ghost use Rattle.std.specs.Prelude.{◌≡◌, ◌<◌, ◌^◌, length, IfOk};
 ghost use Rattle.asm_text.specs.Seen.{seen};
-ghost use Rattle.rv_asm.specs.Passes.{lower_line as lower_line_of, earlier as earlier_of, else_fault as else_fault_of, at_line as at_line_of, first_pass as first_pass_of};
+ghost use Rattle.rv_asm.specs.Passes.{lower_line as lower_line_of, earlier as earlier_of, else_fault as else_fault_of, at_line as at_line_of, first_pass as first_pass_of, second_pass as second_pass_of};
 
+use crate::known::first_unknown;
 use crate::names::{entry_twice_line, name_twice_line};
-use crate::places::misplaced_line;
-use asm_text::{AsmRule, LineFault, Source};
+use crate::places::{misplaced_line, range_line};
+use asm_text::{AsmRule, Item, LineFault, Source};
 use sh_types::NoMemory;
 use std::alloc::Global;
 
@@ -70,4 +71,13 @@ pub fn first_pass(alloc: Global, source: &Source) -> Result<Option<LineFault>, N
     let twice = lower_line(entry_twice_line(items), name_twice_line(alloc, items)?);
     let fault = earlier(misplaced, at_line(AsmRule::Twice, twice));
     Ok(else_fault(fault, source.fault))
+}
+
+/// The first line with a fault of Name or Range, distances apart, and on it the first of these.
+pub fn second_pass(alloc: Global, items: &[Item]) -> Result<Option<LineFault>, NoMemory>
+    requires { length items.now < 2 ^ 63 }
+    ensures { IfOk result (λ fault. fault ≡ second_pass_of items.now) }
+{
+    let unknown = at_line(AsmRule::Name, first_unknown(alloc, items)?);
+    Ok(earlier(unknown, at_line(AsmRule::Range, range_line(items))))
 }

@@ -122,8 +122,9 @@ pub fn natural(value: i128) -> u64
     value as u64
 }
 
+/// How many bytes of the text the statement takes.
 #[tactic(auto, unfolding(crate::specs::Places::text_size, crate::specs::Ranges::is_in_range))]
-fn text_size(statement: &Statement) -> u64
+pub fn text_size(statement: &Statement) -> u64
     requires { is_in_range_of statement.now ≡ true }
     ensures value { result ≡ text_size_of statement.now }
     ensures small { result ≤ 268435456 }
@@ -165,8 +166,9 @@ fn padding(at: u64, to: u64) -> u64
     (to - at % to) % to
 }
 
+/// How many bytes of the data the statement takes, at this offset.
 #[tactic(auto, unfolding(crate::specs::Places::data_size, crate::specs::Ranges::is_in_range))]
-fn data_size(at: u64, statement: &Statement) -> u64
+pub fn data_size(at: u64, statement: &Statement) -> u64
     requires { is_in_range_of statement.now ≡ true }
     ensures { result ≡ data_size_of at statement.now }
 {

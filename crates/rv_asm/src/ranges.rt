@@ -5,7 +5,8 @@ ghost use Rattle.rv_asm.specs.Ranges.{is_from as is_from_of, is_immediate as is_
 use asm_text::Statement;
 use sh_types::Op;
 
-fn is_from(low: u128, high: u128, value: i128) -> bool
+/// Whether the number is from `-low` to `high - 1`.
+pub fn is_from(low: u128, high: u128, value: i128) -> bool
     requires low { low < 2 ^ 100 }
     requires high { high < 2 ^ 100 }
     ensures { result ≡ is_from_of low high value }
