@@ -2,6 +2,7 @@
 ghost use Rattle.std.specs.Prelude.{◌≡◌};
 ghost use Rattle.asm_text.specs.declared.faults.AsmFault.TheVariants as fault;
 
+use sh_types::NoMemory;
 use std::alloc::{AllocError, AllocFailed};
 
 /// The rules of the source language. Text: a byte that is no printable ASCII character, tab or line feed. Form: no such
@@ -45,6 +46,14 @@ impl<T: Drop> From<AllocFailed<T>> for AsmFault {
     ghost from_gives = { λ _ e. e ≡ fault.NoMemory };
 
     fn from(_: AllocFailed<T>) -> Self {
+        AsmFault::NoMemory
+    }
+}
+
+impl From<NoMemory> for AsmFault {
+    ghost from_gives = { λ _ e. e ≡ fault.NoMemory };
+
+    fn from(_: NoMemory) -> Self {
         AsmFault::NoMemory
     }
 }

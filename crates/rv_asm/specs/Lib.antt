@@ -1,3 +1,4 @@
+pub mod Checking
 pub mod Maps
 pub mod Names
 pub mod Passes

@@ -99,6 +99,21 @@ fn is_reached(distance: i64, statement: &Statement) -> bool
     }
 }
 
+fn reaches<'a>(
+    targets: &BTreeMap<(usize, &'a [u8]), Target>,
+    size: u64,
+    place: Place,
+    statement: &'a Statement,
+) -> bool
+    requires size { size ≤ 67108864 }
+    requires short { is_past place ≡ false }
+    ensures { result ≡ is_reached_of (distance_to size place (target_of_of (has_at targets.now) place.functions statement.now)) statement.now }
+{
+    let target = target_of(targets, place.functions, statement);
+    let distance = distance(size, place, target);
+    is_reached(distance, statement)
+}
+
 #[tactic(auto, using(crate::proofs::Placing::is_fine, crate::proofs::Placing::not_past))]
 fn far_line<'a>(
     targets: &BTreeMap<(usize, &'a [u8]), Target>,
@@ -112,8 +127,7 @@ fn far_line<'a>(
 {
     let mut place = start();
     for item in items {
-        let target = target_of(targets, place.functions, &item.statement);
-        if !is_reached(distance(size, place, target), &item.statement) {
+        if !reaches(targets, size, place, &item.statement) {
             return Some(item.line);
         }
         place = next_place(place, &item.statement);

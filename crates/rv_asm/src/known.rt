@@ -39,8 +39,9 @@ fn all_names(alloc: Global, items: &[Item]) -> Result<BTreeSet<(usize, &[u8])>, 
     Ok(names)
 }
 
+/// The names of all functions, in scope 0.
 #[tactic(auto, using(crate::proofs::Knowing::functions_begun, crate::proofs::Knowing::functions_go_on, crate::proofs::Knowing::functions_done))]
-fn all_functions(alloc: Global, items: &[Item]) -> Result<BTreeSet<(usize, &[u8])>, AllocError>
+pub fn all_functions(alloc: Global, items: &[Item]) -> Result<BTreeSet<(usize, &[u8])>, AllocError>
     ensures { IfOk result (λ names. (s : ℕ) (q : List ℕ) → has names s q ≡ is_taken (functions_in items.now) (s, q)) }
 {
     let mut names = BTreeSet::new(alloc);
@@ -50,7 +51,8 @@ fn all_functions(alloc: Global, items: &[Item]) -> Result<BTreeSet<(usize, &[u8]
     Ok(names)
 }
 
-fn contains<'a>(names: &BTreeSet<(usize, &'a [u8])>, scope: usize, name: &'a [u8]) -> bool
+/// Whether the name is there, in its scope.
+pub fn contains<'a>(names: &BTreeSet<(usize, &'a [u8])>, scope: usize, name: &'a [u8]) -> bool
     ensures { result ≡ has names.now scope name.now }
 {
     names.contains(&(scope, name))

@@ -1,6 +1,7 @@
 //! The assembler: a source becomes functions, words, data, symbols and the marks of what refers to what.
 #![tactic(auto)]
 
+mod checking;
 mod distances;
 mod known;
 mod names;
@@ -11,6 +12,7 @@ mod targets;
 mod words;
 mod writing;
 
+pub use checking::{checked, entry_name, last_line};
 pub use distances::first_far;
 pub use known::first_unknown;
 pub use names::{entry_twice_line, name_twice_line};

@@ -51,7 +51,8 @@ fn else_fault(a: Option<LineFault>, b: Option<LineFault>) -> Option<LineFault>
     }
 }
 
-fn at_line(rule: AsmRule, line: Option<u32>) -> Option<LineFault>
+/// The fault of a rule at a line, where there is one.
+pub fn at_line(rule: AsmRule, line: Option<u32>) -> Option<LineFault>
     ensures { result ≡ at_line_of rule line }
 {
     match line {
