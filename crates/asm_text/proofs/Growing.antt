@@ -1,5 +1,5 @@
 -- Items that grow by the statements of a line.
-use Rattle.std.proofs.Common.{◌≡◌, ℕ, ◌<◌, ◌≤◌, Bool, true, false, List, [], ◌∷◌, ◌++◌, length, refl, sym, ap, subst, ◌∙◌, append_assoc, arith, add-one}
+use Rattle.std.proofs.Common.{◌≡◌, ℕ, ◌<◌, Bool, true, false, List, [], ◌∷◌, ◌++◌, length, refl, sym, ap, subst, ◌∙◌, append_assoc, arith}
 use Rattle.std.specs.Prelude.{Option, Some, None, Result, Ok, Err, map, option_map, if◌then◌else◌}
 use Rattle.std.proofs.lemmas.List.{append-nil}
 use Rattle.asm_text.specs.declared.statements.Statement.{Statement}
@@ -10,7 +10,7 @@ use Rattle.asm_text.specs.declared.statements.Statement.TheVariants as statement
 use Rattle.asm_text.specs.Characters.{cut, led, trimmed}
 use Rattle.asm_text.specs.Numbers.{◌>>=◌}
 use Rattle.asm_text.specs.Statements.{parts, in_front, each, alone_in, label_of, unlabelled, statement_of}
-use Rattle.asm_text.specs.Reading.{Fails, Gives, Grows, item, extended}
+use Rattle.asm_text.specs.Reading.{Fails, Grows, item, extended}
 
 pub one_more : (old : List Item) (line : ℕ) (s : Statement) → extended old line (Some (s ∷ [])) ≡ Some (old ++ item line s ∷ [])
 unfolding extended

@@ -1,6 +1,6 @@
 -- Where the loops stand that go over the pieces of a line, and over the lines of a source.
-use Rattle.std.proofs.Common.{◌≡◌, ℕ, ◌+◌, ◌<◌, ◌≤◌, Bool, true, false, List, [], ◌∷◌, ◌++◌, length, drop, refl, sym, ap, ◌∙◌, append_assoc, arith}
-use Rattle.std.specs.Prelude.{Option, Some, None, map, option_map, ◌==◌, if◌then◌else◌}
+use Rattle.std.proofs.Common.{◌≡◌, ℕ, ◌+◌, true, false, List, [], ◌∷◌, ◌++◌, drop, refl, sym, ap, ◌∙◌, append_assoc}
+use Rattle.std.specs.Prelude.{Option, Some, None, map}
 use Rattle.std.specs.List.{list_any}
 use Rattle.std.proofs.lemmas.List.{append-nil}
 use Rattle.asm_text.specs.declared.statements.Statement.{Statement}
@@ -11,9 +11,9 @@ use Rattle.asm_text.specs.declared.faults.AsmRule.TheVariants as rule
 use Rattle.asm_text.specs.declared.lines.Quote.TheVariants.{Outside}
 use Rattle.asm_text.specs.Characters.{is_foreign}
 use Rattle.asm_text.specs.Numbers.{◌>>=◌}
-use Rattle.asm_text.specs.Statements.{statement_of, parts}
+use Rattle.asm_text.specs.Statements.{statement_of}
 use Rattle.asm_text.specs.Reading.{Fails, item, extended}
-use Rattle.asm_text.specs.Source.{pieces, statements_in, line_of, read_lines, behind_line, Read, read, fault}
+use Rattle.asm_text.specs.Source.{pieces, statements_in, line_of, read_lines, Read, read, fault}
 use Rattle.asm_text.proofs.Growing.{none_of}
 
 pub headed : (all : List (List ℕ)) (first : List ℕ) (others : List (List ℕ)) → all ≡ first ∷ others → all ≡ first ∷ drop 1 all

@@ -1,12 +1,11 @@
 -- Words that are no text stand in no table.
-use Rattle.std.proofs.Common.{◌≡◌, ℕ, zero, suc, ◌<◌, Bool, true, false, List, [], ◌∷◌, get_or, lit<, refl, sym, subst, ◌∙◌}
+use Rattle.std.proofs.Common.{◌≡◌, ℕ, zero, suc, ◌<◌, Bool, true, false, List, [], ◌∷◌, get_or, lit<, refl, sym, subst}
 use Rattle.std.proofs.lemmas.Bool.{ltb-true}
 use Rattle.std.proofs.lemmas.Str.{IsUtf8-from_ascii}
 use Rattle.std.specs.List.{list_all}
 use Rattle.std.specs.Prelude.{Option, Some, None, nat_lt, ◌&&◌, if◌then◌else◌, option_map}
 use Rattle.std.specs.Str.{IsUtf8, bytes_eq}
 use Rattle.std.proofs.lemmas.Slice.Eq.{bytes_eq-Decides}
-use Rattle.asm_text.specs.declared.shapes.Shape.{Shape}
 use Rattle.asm_text.specs.Tables.{named, first_of}
 use Rattle.asm_text.specs.Registers.{by_use, numbered, register_named}
 use Rattle.asm_text.specs.Mnemonics.{register_rows, immediate_rows, memory_rows, store_rows, branch_rows, upper_rows, atomic_rows, reserve_rows, bare_rows, plain_rows, naming_rows, value_rows, instruction_shape, shape_of}

@@ -1,5 +1,5 @@
 -- What functions that may be refused memory return.
-use Rattle.std.specs.Prelude.{◌≡◌, ℕ, Option, Some, None, Result, Ok, Err, List, ◌∷◌, [], ◌++◌, map, option_map}
+use Rattle.std.specs.Prelude.{◌≡◌, ℕ, Option, Some, None, Result, Ok, Err, List, [], ◌++◌, map, option_map}
 use Rattle.asm_text.specs.declared.statements.Statement.{Statement}
 use Rattle.asm_text.specs.declared.statements.Item.{Item}
 use Rattle.asm_text.specs.declared.statements.Unread.{Unread}

@@ -1,5 +1,5 @@
 -- The statements of a text, line by line, up to the first line that has a fault by itself.
-use Rattle.std.specs.Prelude.{ℕ, ◌+◌, ◌==◌, ◌&&◌, Bool, true, false, Option, Some, None, List, [], ◌∷◌, ◌++◌, option_map, if◌then◌else◌}
+use Rattle.std.specs.Prelude.{ℕ, ◌+◌, ◌==◌, Bool, false, Option, Some, None, List, [], ◌∷◌, ◌++◌, if◌then◌else◌}
 use Rattle.std.specs.List.{list_any}
 use Rattle.asm_text.specs.declared.lines.Quote.{Quote}
 use Rattle.asm_text.specs.declared.lines.Quote.TheVariants.{Outside, Inside, Escaped}
