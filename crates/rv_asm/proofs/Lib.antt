@@ -1,5 +1,6 @@
 pub mod Appending
 pub mod Knowing
+pub mod Laying
 pub mod Naming
 pub mod Narrow
 pub mod Placing

@@ -78,7 +78,7 @@ done targets place items i all le h s q =
 
 -- ---- the same targets
 
-of_same : (f g : ℕ → List ℕ → Option Target) → ((s : ℕ) (q : List ℕ) → f s q ≡ g s q) → (number : ℕ) (s : Statement) → target_of f number s ≡ target_of g number s
+pub of_same : (f g : ℕ → List ℕ → Option Target) → ((s : ℕ) (q : List ℕ) → f s q ≡ g s q) → (number : ℕ) (s : Statement) → target_of f number s ≡ target_of g number s
 unfolding target_of
 of_same f g h number (statement.Branch op rs1 rs2 label) = h number label
 of_same f g h number (statement.Jump rd target) = ap (λ (o : Option Target). label_or_function o (f 0 target)) (h number target) ∙ ap (λ (o : Option Target). label_or_function (g number target) o) (h 0 target)

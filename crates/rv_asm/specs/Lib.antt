@@ -1,4 +1,5 @@
 pub mod Checking
+pub mod Data
 pub mod Maps
 pub mod Names
 pub mod Passes

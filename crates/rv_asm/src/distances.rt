@@ -13,7 +13,8 @@ use sh_types::NoMemory;
 use std::alloc::Global;
 use std::collections::BTreeMap;
 
-fn find<'a>(
+/// What a name of a scope stands for.
+pub fn find<'a>(
     targets: &BTreeMap<(usize, &'a [u8]), Target>,
     scope: usize,
     name: &'a [u8],
@@ -33,8 +34,9 @@ fn label_or_function(label: Option<Target>, other: Option<Target>) -> Option<Tar
     if other.function { Some(other) } else { None }
 }
 
+/// What a statement in the function of this number names.
 #[tactic(auto, unfolding(crate::specs::Targets::target_of))]
-fn target_of<'a>(
+pub fn target_of<'a>(
     targets: &BTreeMap<(usize, &'a [u8]), Target>,
     number: usize,
     statement: &'a Statement,
@@ -77,7 +79,8 @@ pub fn address(size: u64, target: Target) -> u64
     }
 }
 
-fn distance(size: u64, place: Place, target: Option<Target>) -> i64
+/// How far it is from a place of the text to what is named there.
+pub fn distance(size: u64, place: Place, target: Option<Target>) -> i64
     requires size { size ≤ 67108864 }
     requires short { is_past place ≡ false }
     ensures { result ≡ distance_to size place target }

@@ -2,6 +2,7 @@
 #![tactic(auto)]
 
 mod checking;
+mod data;
 mod distances;
 mod known;
 mod names;
@@ -13,6 +14,7 @@ mod words;
 mod writing;
 
 pub use checking::{checked, entry_name, last_line};
+pub use data::{data_of, text_of};
 pub use distances::first_far;
 pub use known::first_unknown;
 pub use names::{entry_twice_line, name_twice_line};

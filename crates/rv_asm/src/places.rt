@@ -150,7 +150,8 @@ pub fn text_size(statement: &Statement) -> u64
     }
 }
 
-fn alignment(to: i128) -> u64
+/// The number of `.align`.
+pub fn alignment(to: i128) -> u64
     requires low { is_from 0 1 to ≡ false }
     requires high { is_from 0 4097 to ≡ true }
     ensures value { result ≡ natural_of to }
@@ -159,7 +160,8 @@ fn alignment(to: i128) -> u64
     to as u64
 }
 
-fn padding(at: u64, to: u64) -> u64
+/// How many bytes lead from a place to the next multiple of a number.
+pub fn padding(at: u64, to: u64) -> u64
     requires { 0 < to }
     ensures { result ≡ padding_of at to }
 {
