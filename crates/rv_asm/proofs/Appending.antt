@@ -28,8 +28,9 @@ none_written old = sym (append-nil old)
 
 pub behind_plain : {U : Type 0} (old mid new : List ℕ) (r : Result U Unwritten) (distance : ℤ) (s : Statement) (instrs : List Instr) → mid ≡ old ++ plain_words s → instrs ≡ instrs_of distance s
     → Writes mid new r instrs → WritesWords old new r distance s
-behind_plain old mid new (Ok _) distance s instrs m e w =
-    (w.0 ∙ ap (λ (l : List ℕ). l ++ map word_of instrs) m ∙ append_assoc old (plain_words s) (map word_of instrs) ∙ ap (λ (is : List Instr). old ++ (plain_words s ++ map word_of is)) e,
-        subst (λ (is : List Instr). AreInstrs is) e w.1)
+behind_plain old mid new (Ok _) distance s instrs m e w = (
+  w.0 ∙ ap (λ (l : List ℕ). l ++ map word_of instrs) m ∙ append_assoc old (plain_words s) (map word_of instrs) ∙ ap (λ (is : List Instr). old ++ (plain_words s ++ map word_of is)) e,
+  subst (λ (is : List Instr). AreInstrs is) e w.1,
+)
 behind_plain old mid new (Err NoMemory) distance s instrs m e w = tt
 behind_plain old mid new (Err Range) distance s instrs m e w = λ h. w (subst (λ (is : List Instr). AreInstrs is) (sym e) h)

@@ -69,7 +69,7 @@ names_go_on old new inside functions items i item all lt same after h =
     let rest = drop (i + 1) items in
     let keys = keys_in (is_inside_after inside item.statement) (functions + begins item.statement) rest in
     let e : keys_in inside functions (drop i items) ≡ keys_with (key_of inside functions item.statement) keys =
-        at_drop_more (keys_in inside functions) items i item lt ∙ ap (λ (x : Item). keys_in inside functions (x ∷ rest)) (sym same) ∙ keys_more inside functions item rest in
+    at_drop_more (keys_in inside functions) items i item lt ∙ ap (λ (x : Item). keys_in inside functions (x ∷ rest)) (sym same) ∙ keys_more inside functions item rest in
     record { left = λ s q. carried old new (key_of inside functions item.statement) keys s q (after s q) ∙ ap (λ (ks : List (ℕ × List ℕ)). has old s q || is_taken ks (s, q)) (sym e) ∙ h.left s q }
 
 pub names_done : (names : BTreeSet (ℕ × Bor (List ℕ))) (inside : Bool) (functions : ℕ) (items : List Item) (i : ℕ) (all : List (ℕ × List ℕ)) → length items ≤ i
@@ -95,7 +95,7 @@ pub functions_go_on : (old new : BTreeSet (ℕ × Bor (List ℕ))) (items : List
 functions_go_on old new items i item all lt same after h =
     let rest = drop (i + 1) items in
     let e : functions_in (drop i items) ≡ keys_with (function_key item.statement) (functions_in rest) =
-        at_drop_more functions_in items i item lt ∙ ap (λ (x : Item). functions_in (x ∷ rest)) (sym same) ∙ functions_more item rest in
+    at_drop_more functions_in items i item lt ∙ ap (λ (x : Item). functions_in (x ∷ rest)) (sym same) ∙ functions_more item rest in
     record { left = λ s q. carried old new (function_key item.statement) (functions_in rest) s q (after s q) ∙ ap (λ (ks : List (ℕ × List ℕ)). has old s q || is_taken ks (s, q)) (sym e) ∙ h.left s q }
 
 pub functions_done : (names : BTreeSet (ℕ × Bor (List ℕ))) (items : List Item) (i : ℕ) (all : List (ℕ × List ℕ)) → length items ≤ i

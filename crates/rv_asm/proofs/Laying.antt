@@ -27,7 +27,7 @@ goes_on {A} give old new place next items i item total lt same n e so_far =
     let rest = drop (i + 1) items in
     let others = laid give (place_after place item.statement) rest in
     let here : laid give place (drop i items) ≡ give place item.statement ++ others =
-        at_drop_more (laid give place) items i item lt ∙ ap (λ (x : Item). laid give place (x ∷ rest)) (sym same) ∙ laid_more give place item rest in
+    at_drop_more (laid give place) items i item lt ∙ ap (λ (x : Item). laid give place (x ∷ rest)) (sym same) ∙ laid_more give place item rest in
     ap (λ (p : Place). new ++ laid give p rest) n ∙ ap (λ (w : List A). w ++ others) e
     ∙ append_assoc old (give place item.statement) others ∙ ap (λ (w : List A). old ++ w) (sym here) ∙ so_far
 

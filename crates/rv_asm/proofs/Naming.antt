@@ -55,7 +55,7 @@ key_taken names keys (Some key) h = h key.0 key.1
 
 go : (inside : Bool) (functions : ℕ) (keys : List (ℕ × List ℕ)) (item : Item) (items : List Item) → is_taken_by keys (key_of inside functions item.statement) ≡ false
     → name_twice_line inside functions keys (item ∷ items)
-      ≡ name_twice_line (is_inside_after inside item.statement) (functions + begins item.statement) (keys_with (key_of inside functions item.statement) keys) items
+    ≡ name_twice_line (is_inside_after inside item.statement) (functions + begins item.statement) (keys_with (key_of inside functions item.statement) keys) items
 unfolding name_twice_line
 go inside functions keys item items h = rw h refl
 

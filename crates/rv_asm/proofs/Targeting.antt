@@ -59,7 +59,7 @@ goes_on old new place next items i item all lt same n after h =
     let others = targets_in (place_after place item.statement) rest in
     let one = defined_by place item.statement in
     let e : targets_in place (drop i items) ≡ targets_with one others =
-        at_drop_more (targets_in place) items i item lt ∙ ap (λ (x : Item). targets_in place (x ∷ rest)) (sym same) ∙ targets_more place item rest in
+    at_drop_more (targets_in place) items i item lt ∙ ap (λ (x : Item). targets_in place (x ∷ rest)) (sym same) ∙ targets_more place item rest in
     record {
       left = λ s q.
           ap (λ (p : Place). first_of (target_at (targets_in p rest) (s, q)) (has_at new s q)) n

@@ -37,9 +37,9 @@ at_line rule line = option_map (λ l. fault l rule) line
 unfoldable pub first_pass : Read → Option LineFault
 first_pass source =
     else_fault
-        (earlier (at_line Form (misplaced_line false source.items))
-            (at_line Twice (lower_line (entry_twice_line false source.items) (name_twice_line false 0 [] source.items))))
-        source.fault
+    (earlier (at_line Form (misplaced_line false source.items))
+    (at_line Twice (lower_line (entry_twice_line false source.items) (name_twice_line false 0 [] source.items))))
+    source.fault
 
 -- The first line with a fault of Name or Range, distances apart, and on it the first of these.
 abbrev pub second_pass : List Item → Option LineFault

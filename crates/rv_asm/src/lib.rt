@@ -24,3 +24,6 @@ pub use ranges::is_in_range;
 pub use targets::{Target, last_place};
 pub use words::{Sequence, instrs};
 pub use writing::{Unwritten, push_words};
+
+#[cfg(test)]
+mod tests;

@@ -16,13 +16,7 @@ fn lower_line(a: Option<u32>, b: Option<u32>) -> Option<u32>
     match (a, b) {
         (None, b) => b,
         (Some(a), None) => Some(a),
-        (Some(a), Some(b)) => {
-            if a <= b {
-                Some(a)
-            } else {
-                Some(b)
-            }
-        }
+        (Some(a), Some(b)) => { if a <= b { Some(a) } else { Some(b) } }
     }
 }
 
@@ -32,13 +26,7 @@ fn earlier(a: Option<LineFault>, b: Option<LineFault>) -> Option<LineFault>
     match (a, b) {
         (None, b) => b,
         (Some(a), None) => Some(a),
-        (Some(a), Some(b)) => {
-            if a.line <= b.line {
-                Some(a)
-            } else {
-                Some(b)
-            }
-        }
+        (Some(a), Some(b)) => { if a.line <= b.line { Some(a) } else { Some(b) } }
     }
 }
 

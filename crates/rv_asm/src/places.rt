@@ -136,13 +136,7 @@ pub fn text_size(statement: &Statement) -> u64
         Statement::Upper { .. } => 4,
         Statement::Branch { .. } => 4,
         Statement::Jump { .. } => 4,
-        Statement::Literal { value, .. } => {
-            if is_small(*value) {
-                4
-            } else {
-                8
-            }
-        }
+        Statement::Literal { value, .. } => { if is_small(*value) { 4 } else { 8 } }
         Statement::Address { .. } => 8,
         Statement::Call { .. } => 8,
         Statement::Tail { .. } => 8,
