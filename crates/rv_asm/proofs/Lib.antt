@@ -1,4 +1,5 @@
 pub mod Appending
+pub mod Ending
 pub mod Knowing
 pub mod Laying
 pub mod Naming

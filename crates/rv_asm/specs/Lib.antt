@@ -1,5 +1,6 @@
 pub mod Checking
 pub mod Data
+pub mod Functions
 pub mod Maps
 pub mod Names
 pub mod Passes

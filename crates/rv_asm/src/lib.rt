@@ -4,6 +4,7 @@
 mod checking;
 mod data;
 mod distances;
+mod functions;
 mod known;
 mod names;
 mod passes;
@@ -16,6 +17,7 @@ mod writing;
 pub use checking::{checked, entry_name, last_line};
 pub use data::{data_of, text_of};
 pub use distances::first_far;
+pub use functions::functions_of;
 pub use known::first_unknown;
 pub use names::{entry_twice_line, name_twice_line};
 pub use passes::{first_pass, second_pass};
