@@ -1,10 +1,10 @@
 -- Words of instructions that are added one behind the other.
-use Rattle.std.proofs.Common.{◌≡◌, ℕ, List, [], ◌∷◌, ◌++◌, refl, sym, ap, subst, ◌∙◌, append_assoc}
+use Rattle.std.proofs.Common.{◌≡◌, ℕ, List, [], ◌∷◌, ◌++◌, sym, ap, subst, ◌∙◌, append_assoc}
 use Rattle.std.specs.Prelude.{ℤ, Result, Ok, Err, map}
 use Rattle.asm_text.specs.declared.statements.Statement.{Statement}
 use Rattle.std.proofs.lemmas.List.{append-nil}
 use Rattle.sh_types.specs.declared.instructions.Instr.{Instr}
-use Rattle.sh_types.specs.Instruction.{word_of, IsInstr}
+use Rattle.sh_types.specs.Instruction.{word_of}
 use Rattle.rv_asm.specs.declared.writing.Unwritten.{Unwritten}
 use Rattle.rv_asm.specs.declared.writing.Unwritten.TheVariants.{NoMemory, Range}
 use Rattle.rv_asm.specs.Words.{AreInstrs, instrs_of, plain_words}

@@ -24,7 +24,7 @@ goes_on old new begun later place next items i item total lt same n l e so_far =
     let rest = drop (i + 1) items in
     let others = functions_from (open_after begun place item.statement) (place_after place item.statement) rest in
     let here : functions_from begun place (drop i items) ≡ ended begun place item.statement ++ others =
-        at_drop_more (functions_from begun place) items i item lt ∙ ap (λ (x : Item). functions_from begun place (x ∷ rest)) (sym same) ∙ more begun place item rest in
+    at_drop_more (functions_from begun place) items i item lt ∙ ap (λ (x : Item). functions_from begun place (x ∷ rest)) (sym same) ∙ more begun place item rest in
     ap (λ (p : Place). new ++ functions_from later p rest) n ∙ ap (λ (o : Option (List ℕ × ℕ)). new ++ functions_from o (place_after place item.statement) rest) l
     ∙ ap (λ (w : List Function). w ++ others) e ∙ append_assoc old (ended begun place item.statement) others ∙ ap (λ (w : List Function). old ++ w) (sym here) ∙ so_far
 

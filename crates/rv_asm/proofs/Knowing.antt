@@ -1,5 +1,5 @@
 -- Where the loops stand that collect names, and what they decide.
-use Rattle.std.proofs.Common.{◌≡◌, ℕ, ◌+◌, ◌<◌, ◌≤◌, Bool, true, false, List, [], ◌∷◌, length, get_or, drop, refl, sym, ap, ◌∙◌, arith}
+use Rattle.std.proofs.Common.{◌≡◌, ℕ, ◌+◌, ◌<◌, ◌≤◌, Bool, true, false, List, [], ◌∷◌, length, get_or, drop, refl, sym, ap, ◌∙◌}
 use Rattle.std.specs.Prelude.{Option, Some, None, ◌||◌, if◌then◌else◌}
 use Rattle.std.specs.BTreeSet.{BTreeSet}
 use Rattle.std.proofs.lemmas.List.{at_drop_more, at_drop_all}
@@ -8,7 +8,7 @@ use Rattle.asm_text.specs.declared.statements.Statement.{Statement}
 use Rattle.asm_text.specs.declared.statements.Statement.TheVariants as statement
 use Rattle.asm_text.specs.declared.statements.Item.{Item}
 use Rattle.rv_asm.specs.Places.{begins, is_inside_after}
-use Rattle.rv_asm.specs.Names.{key_of, same_key, is_taken, keys_with, keys_in, function_key, functions_in, is_known, unknown_line}
+use Rattle.rv_asm.specs.Names.{key_of, is_taken, keys_with, keys_in, function_key, functions_in, is_known, unknown_line}
 use Rattle.rv_asm.specs.Sets.{has, is_key}
 
 or_none : (b : Bool) → (b || false) ≡ b

@@ -8,7 +8,7 @@ use Rattle.asm_text.specs.declared.statements.Item.{Item}
 use Rattle.rv_asm.specs.declared.places.Place.{Place}
 use Rattle.rv_asm.specs.declared.targets.Target.{Target}
 use Rattle.rv_asm.specs.Places.{place_after}
-use Rattle.rv_asm.specs.Targets.{target_of, distance_to}
+use Rattle.rv_asm.specs.Targets.{distance_to}
 use Rattle.rv_asm.specs.Words.{words_of}
 use Rattle.rv_asm.specs.Data.{laid, data_bytes, text_words, low_bytes, address_or}
 use Rattle.rv_asm.proofs.Targeting.{of_same}

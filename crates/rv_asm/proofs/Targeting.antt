@@ -1,5 +1,5 @@
 -- What a map of names has, beside a list.
-use Rattle.std.proofs.Common.{◌≡◌, ℕ, ◌+◌, ◌<◌, ◌≤◌, Bool, true, false, List, [], ◌∷◌, length, get_or, drop, refl, sym, ap, subst, ◌∙◌, arith}
+use Rattle.std.proofs.Common.{◌≡◌, ℕ, ◌+◌, ◌<◌, ◌≤◌, Bool, true, false, List, [], ◌∷◌, length, get_or, drop, refl, sym, ap, ◌∙◌}
 use Rattle.std.specs.Prelude.{Option, Some, None, cond, if◌then◌else◌}
 use Rattle.std.specs.BTreeMap.{BTreeMap}
 use Rattle.std.proofs.lemmas.List.{at_drop_more, at_drop_all}
@@ -12,7 +12,7 @@ use Rattle.rv_asm.specs.declared.places.Place.{Place}
 use Rattle.rv_asm.specs.declared.targets.Target.{Target}
 use Rattle.rv_asm.specs.Places.{place_after}
 use Rattle.rv_asm.specs.Maps.{has_at, defines_by}
-use Rattle.rv_asm.specs.Targets.{defined_by, targets_with, targets_in, target_at, target_if, target_of, label_or_function, distance_to, is_reached, far_line}
+use Rattle.rv_asm.specs.Targets.{defined_by, targets_with, targets_in, target_at, target_of, label_or_function, distance_to, is_reached, far_line}
 
 pub cond_first : (b : Bool) (target : Target) (was : Option Target) → cond b (Some target) was ≡ first_of (if b then Some target else None) was
 cond_first true target was = refl

@@ -1,5 +1,5 @@
 -- The ranges of operands, and the bytes that the text and the data may have.
-use Rattle.std.specs.Prelude.{ℕ, ℤ, pos, negsuc, ◌+◌, ◌^◌, ◌==◌, ◌&&◌, ◌||◌, not, nat_lt, nat_le, Bool, true, false, Option, Some, None, List, [], ◌∷◌, if◌then◌else◌}
+use Rattle.std.specs.Prelude.{ℕ, ℤ, pos, negsuc, ◌^◌, ◌==◌, ◌&&◌, ◌||◌, not, nat_lt, Bool, true, Option, Some, None, List, [], ◌∷◌, if◌then◌else◌}
 use Rattle.sh_types.specs.declared.instructions.Op.{Op}
 use Rattle.sh_types.specs.declared.instructions.Op.TheVariants.{Slli, Srli, Srai, Slliw, Srliw, Sraiw}
 use Rattle.asm_text.specs.declared.statements.Statement.{Statement}

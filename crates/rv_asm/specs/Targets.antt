@@ -1,5 +1,5 @@
 -- What names stand for, and how far it is.
-use Rattle.std.specs.Prelude.{ℕ, ℤ, pos, ◌-ℤ◌, ◌+◌, ◌*◌, ◌/◌, ◌^◌, ◌||◌, not, Bool, true, false, Option, Some, None, List, [], ◌∷◌, option_map, if◌then◌else◌}
+use Rattle.std.specs.Prelude.{ℕ, ℤ, pos, ◌-ℤ◌, ◌+◌, ◌*◌, ◌/◌, ◌^◌, ◌||◌, Bool, true, false, Option, Some, None, List, [], ◌∷◌, option_map, if◌then◌else◌}
 use Rattle.asm_text.specs.declared.statements.Statement.{Statement}
 use Rattle.asm_text.specs.declared.statements.Statement.TheVariants as statement
 use Rattle.asm_text.specs.declared.statements.Item.{Item}

@@ -1,5 +1,5 @@
 -- The words that statements give.
-use Rattle.std.specs.Prelude.{ℕ, ℤ, pos, ◌+◌, ◌*◌, ◌/◌, ◌%◌, ◌^◌, List, [], ◌∷◌, ◌++◌, map, replicate, if◌then◌else◌}
+use Rattle.std.specs.Prelude.{ℕ, ℤ, ◌+◌, ◌*◌, ◌/◌, ◌%◌, ◌^◌, List, [], ◌∷◌, ◌++◌, map, replicate, if◌then◌else◌}
 use Rattle.sh_types.specs.declared.instructions.Instr.{Instr}
 use Rattle.sh_types.specs.declared.instructions.Op.TheVariants.{Lui, Auipc, Jal, Jalr, Addi, Addiw}
 use Rattle.sh_types.specs.Instruction.{low_bits, word_of, IsInstr}

@@ -1,5 +1,5 @@
-use Rattle.std.proofs.Common.{◌∙◌, ap, ◌≡◌, Bool}
-use Rattle.std.specs.Prelude.{◌||◌, true, cond}
+use Rattle.std.proofs.Common.{◌∙◌, ap, Bool}
+use Rattle.std.specs.Prelude.{true, cond}
 use Rattle.rv_asm.specs.Sets.{has}
 use Rattle.rv_asm.proofs.Naming.{same_keys, or_cond}
 use Rattle.rv_asm.proofs.names.define.Goals as goal

@@ -1,4 +1,4 @@
-use Rattle.std.proofs.Common.{◌∙◌, ap, ◌≡◌, Bool}
+use Rattle.std.proofs.Common.{◌∙◌, ap, Bool}
 use Rattle.std.specs.Prelude.{cond, Some}
 use Rattle.rv_asm.specs.Maps.{has_at}
 use Rattle.rv_asm.proofs.Naming.{same_keys}
