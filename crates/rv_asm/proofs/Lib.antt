@@ -1,0 +1,9 @@
+pub mod Appending
+pub mod Ending
+pub mod Knowing
+pub mod Laying
+pub mod Naming
+pub mod Narrow
+pub mod Placing
+pub mod Ranging
+pub mod Targeting

@@ -1,0 +1,13 @@
+pub mod Checking
+pub mod Data
+pub mod Functions
+pub mod Maps
+pub mod Names
+pub mod Passes
+pub mod Places
+pub mod Ranges
+pub mod Seen
+pub mod Sets
+pub mod Targets
+pub mod Words
+pub mod Writing

@@ -1,0 +1,31 @@
+//! The assembler: a source becomes functions, words, data, symbols and the marks of what refers to what.
+#![tactic(auto)]
+
+mod checking;
+mod data;
+mod distances;
+mod functions;
+mod known;
+mod names;
+mod passes;
+mod places;
+mod ranges;
+mod targets;
+mod words;
+mod writing;
+
+pub use checking::{checked, entry_name, last_line};
+pub use data::{data_of, text_of};
+pub use distances::first_far;
+pub use functions::functions_of;
+pub use known::first_unknown;
+pub use names::{entry_twice_line, name_twice_line};
+pub use passes::{first_pass, second_pass};
+pub use places::{Place, is_open, misplaced_line, range_line};
+pub use ranges::is_in_range;
+pub use targets::{Target, last_place};
+pub use words::{Sequence, instrs};
+pub use writing::{Unwritten, push_words};
+
+#[cfg(test)]
+mod tests;
