@@ -1,0 +1,5 @@
+pub mod Fields
+pub mod Parts
+pub mod Tables
+pub mod Writable
+pub mod Written

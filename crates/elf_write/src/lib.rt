@@ -1,0 +1,14 @@
+//! Writes the ELF-64 file of an assembled object (System V gABI, "Object Files").
+#![tactic(auto)]
+
+mod code;
+mod fields;
+mod headers;
+mod parts;
+mod records;
+mod sections;
+mod strings;
+mod symbols;
+mod write;
+
+pub use write::write_elf;
