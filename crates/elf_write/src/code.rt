@@ -4,16 +4,16 @@ ghost use Rattle.std.specs.List.{flat_map};
 ghost use Rattle.elf_write.specs.Fields.{little};
 ghost use Rattle.elf_write.specs.Written.{code};
 
+use crate::fields::put_word;
 use sh_types::Items;
 use std::alloc::AllocError;
 
 /// Appends words, the lowest byte of each first.
-#[tactic(auto, using(crate::proofs::Little::little_four))]
 fn put_words(file: &mut Vec<u8>, words: &[u32]) -> Result<(), AllocError>
     ensures { OnOk result (file.new.items ≡ file.old.items ++ flat_map (little 4) words.now) }
 {
     for word in words {
-        file.extend_from_slice(&word.to_le_bytes())?;
+        put_word(file, *word)?;
     }
     Ok(())
 }

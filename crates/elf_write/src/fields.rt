@@ -28,8 +28,9 @@ fn put_half(file: &mut Vec<u8>, value: u16) -> Result<(), AllocError>
     file.extend_from_slice(&value.to_le_bytes())
 }
 
+/// Appends a number of four bytes, the lowest first.
 #[tactic(auto, using(crate::proofs::Little::little_four))]
-fn put_word(file: &mut Vec<u8>, value: u32) -> Result<(), AllocError>
+pub fn put_word(file: &mut Vec<u8>, value: u32) -> Result<(), AllocError>
     ensures { OnOk result (file.new.items ≡ file.old.items ++ little 4 value) }
 {
     file.extend_from_slice(&value.to_le_bytes())

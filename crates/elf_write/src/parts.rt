@@ -1,5 +1,5 @@
 //! The places and the sizes of the parts of a file.
-ghost use Rattle.std.specs.Prelude.{◌≡◌, ◌+◌, ◌^◌, ◌<◌, length};
+ghost use Rattle.std.specs.Prelude.{◌≡◌, ◌+◌, ◌*◌, ◌^◌, ◌<◌, length};
 ghost use Rattle.std.specs.List.{concat};
 ghost use Rattle.elf_write.specs.Parts as part;
 ghost use Rattle.elf_write.specs.Writable.{IsWritable};
@@ -114,8 +114,28 @@ fn loaded_parts(object: &Object) -> (Part, Part)
     (text, data)
 }
 
+/// The bytes of .rela.text, or of .rela.data.
+#[tactic(auto, using(crate::proofs::Marks::few_marks))]
+fn records_size(in_text: bool, object: &Object) -> u64
+    requires { IsWritable object.now }
+    ensures value { result ≡ 24 * length (part.marks_in in_text object.now.marks) }
+    ensures small { result < 2 ^ 31 }
+{
+    ENTRY_SIZE * mark_count(in_text, object.marks.as_slice())
+}
+
+/// The bytes of .symtab.
+#[tactic(auto, using(crate::proofs::Marks::few_symbols))]
+fn symbols_size(object: &Object) -> u64
+    requires { IsWritable object.now }
+    ensures value { result ≡ 24 * length object.now.symbols }
+    ensures small { result < 2 ^ 37 }
+{
+    ENTRY_SIZE * object.symbols.len() as u64
+}
+
 /// The parts of the file of an object.
-#[tactic(auto, using(crate::proofs::Marks::few_marks), unfolding(crate::specs::Parts::parts_of, crate::specs::Parts::text_records_part, crate::specs::Parts::data_records_part, crate::specs::Parts::symbols_part, crate::specs::Parts::strings_part, crate::specs::Parts::names_part, crate::specs::Parts::heads_part))]
+#[tactic(auto, unfolding(crate::specs::Parts::parts_of, crate::specs::Parts::text_records_part, crate::specs::Parts::data_records_part, crate::specs::Parts::symbols_part, crate::specs::Parts::strings_part, crate::specs::Parts::names_part, crate::specs::Parts::heads_part))]
 pub fn laid_out(object: &Object) -> Parts
     requires { IsWritable object.now }
     ensures value { result ≡ part.parts_of object.now }
@@ -124,10 +144,9 @@ pub fn laid_out(object: &Object) -> Parts
     ensures end { result.heads.at + result.heads.size < 2 ^ 60 }
 {
     let (text, data) = loaded_parts(object);
-    let marks = object.marks.as_slice();
-    let text_records = behind(data, mark_count(true, marks) * ENTRY_SIZE);
-    let data_records = behind(text_records, mark_count(false, marks) * ENTRY_SIZE);
-    let symbols = behind(data_records, object.symbols.len() as u64 * ENTRY_SIZE);
+    let text_records = behind(data, records_size(true, object));
+    let data_records = behind(text_records, records_size(false, object));
+    let symbols = behind(data_records, symbols_size(object));
     let strings = behind(symbols, strings_size(object.symbols.as_slice()));
     let names = behind(strings, SECTION_NAMES.len() as u64);
     Parts {

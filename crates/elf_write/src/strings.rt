@@ -13,7 +13,8 @@ pub const SECTION_NAMES: &[u8] =
 #[tactic(auto, unfolding(crate::specs::Parts::string_table))]
 pub fn strings_size(symbols: &[Symbol]) -> u64
     requires { length (string_table (names_of symbols.now)) < 2 ^ 32 }
-    ensures { result ≡ length (string_table (names_of symbols.now)) }
+    ensures value { result ≡ length (string_table (names_of symbols.now)) }
+    ensures small { result < 2 ^ 32 }
 {
     let mut size = 0;
     for symbol in symbols {
