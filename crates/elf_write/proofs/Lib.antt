@@ -1,2 +1,5 @@
+pub mod Hello
+pub mod Laying
 pub mod Little
 pub mod Marks
+pub mod Widths

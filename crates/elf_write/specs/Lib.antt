@@ -1,4 +1,5 @@
 pub mod Fields
+pub mod Held
 pub mod Parts
 pub mod Tables
 pub mod Writable

@@ -4,6 +4,7 @@
 mod code;
 mod fields;
 mod headers;
+mod laws;
 mod parts;
 mod records;
 mod sections;
@@ -11,4 +12,8 @@ mod strings;
 mod symbols;
 mod write;
 
+pub use laws::files_hold_their_parts;
 pub use write::write_elf;
+
+#[cfg(test)]
+mod tests;
