@@ -62,9 +62,10 @@ all_held file here [] at order = tt
 all_held file here (p ∷ rest) at order =
     let below : length file ≤ p.0.at = omega (arith, order.0) in
     let before = file ++ replicate (p.0.at - length file) 0 in
-    let b = begins (before ++ p.1) rest in
-    (rw b.1 (held before p.1 b.0 p.0.at p.0.size (filled file p.0.at below) order.1),
-     all_held (before ++ p.1) (p.0.at + p.0.size) rest (laid file p below order.1) order.2)
+    let b = begins (before ++ p.1) rest in (
+      rw b.1 (held before p.1 b.0 p.0.at p.0.size (filled file p.0.at below) order.1),
+      all_held (before ++ p.1) (p.0.at + p.0.size) rest (laid file p below order.1) order.2,
+    )
 
 pub length_placed : (file : List ℕ) (here : ℕ) (parts : List (Part × List ℕ)) → length file ≡ here → InOrder here parts → length (placed file parts) ≡ end_of here parts
 unfolding placed
@@ -164,15 +165,35 @@ unfolding heads_part sections
 heads_size object = length_heads _ ∙ size_behind (names_part object) _
 
 in_order : (object : Object) → InOrder 176 (parts_list object)
-in_order object =
-    (text_at object, text_size object,
-     (data_at object, data_size object,
-      (text_records_at object, text_records_size object,
-       (data_records_at object, data_records_size object,
-        (symbols_at object, symbols_size object,
-         (strings_at object, strings_size object,
-          (names_at object, names_size object,
-           (heads_at object, heads_size object, tt))))))))
+in_order object = (
+  text_at object,
+  text_size object,
+  (
+    data_at object,
+    data_size object,
+    (
+      text_records_at object,
+      text_records_size object,
+      (
+        data_records_at object,
+        data_records_size object,
+        (
+          symbols_at object,
+          symbols_size object,
+          (
+            strings_at object,
+            strings_size object,
+            (
+              names_at object,
+              names_size object,
+              (heads_at object, heads_size object, tt),
+            ),
+          ),
+        ),
+      ),
+    ),
+  ),
+)
 
 pub holds_all : (object : Object) → IsWritable object → HoldsAll object (parts_of object) (elf_file object)
 unfolding parts_of

@@ -50,8 +50,8 @@ unfolding marks_in marked
 few_marks object w in_text =
     let at : Mark → ℕ = λ (m : Mark). m.at in
     let low : All (λ x. x < 67108864) (map at (filter (is_in in_text) object.marks)) =
-      All-map (λ x. x < 67108864) at (filter (is_in in_text) object.marks)
-        (All-filter (is_in in_text) (λ (m : Mark). m.at < 67108864) object.marks (low_marks object w)) in
+    All-map (λ x. x < 67108864) at (filter (is_in in_text) object.marks)
+    (All-filter (is_in in_text) (λ (m : Mark). m.at < 67108864) object.marks (low_marks object w)) in
     let few = at_most (map at (filter (is_in in_text) object.marks)) 67108864 (rises object w in_text) low in
     rw length-map at few
 

@@ -73,7 +73,7 @@ unfolding symbol_table
 length_symbols name [] = omega arith
 length_symbols name (symbol ∷ rest) =
     let rest_is : length (symbol_table (name + length symbol.name + 1) rest) ≡ 24 * length rest =
-      length_symbols (name + length symbol.name + 1) rest in
+    length_symbols (name + length symbol.name + 1) rest in
     rw (length-append, length_symbol) (omega arith)
 
 pub length_front : (entry : ℕ) (parts : Parts) → length (front entry parts) ≡ 176

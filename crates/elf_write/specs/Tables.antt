@@ -17,26 +17,26 @@ use Rattle.elf_write.specs.Parts.{home_of, marks_in}
 unfoldable pub file_header : ℕ → ℕ → List ℕ
 file_header entry heads_at =
     fields (
-      (4, 0x464c457f)   -- EI_MAG0 to EI_MAG3: 0x7f, E, L, F
-      ∷ (1, 2)          -- EI_CLASS: ELFCLASS64
-      ∷ (1, 1)          -- EI_DATA: ELFDATA2LSB
-      ∷ (1, 1)          -- EI_VERSION: EV_CURRENT
-      ∷ (1, 0)          -- EI_OSABI
-      ∷ (8, 0)          -- EI_ABIVERSION and padding
-      ∷ (2, 2)          -- e_type: ET_EXEC
-      ∷ (2, 243)        -- e_machine: EM_RISCV
-      ∷ (4, 1)          -- e_version: EV_CURRENT
-      ∷ (8, entry)      -- e_entry
-      ∷ (8, 64)         -- e_phoff
-      ∷ (8, heads_at)   -- e_shoff
-      ∷ (4, 0)          -- e_flags
-      ∷ (2, 64)         -- e_ehsize
-      ∷ (2, 56)         -- e_phentsize
-      ∷ (2, 2)          -- e_phnum
-      ∷ (2, 64)         -- e_shentsize
-      ∷ (2, 8)          -- e_shnum
-      ∷ (2, 7)          -- e_shstrndx
-      ∷ [])
+    (4, 0x464c457f)  -- EI_MAG0 to EI_MAG3: 0x7f, E, L, F
+    ∷ (1, 2)  -- EI_CLASS: ELFCLASS64
+    ∷ (1, 1)  -- EI_DATA: ELFDATA2LSB
+    ∷ (1, 1)  -- EI_VERSION: EV_CURRENT
+    ∷ (1, 0)  -- EI_OSABI
+    ∷ (8, 0)  -- EI_ABIVERSION and padding
+    ∷ (2, 2)  -- e_type: ET_EXEC
+    ∷ (2, 243)  -- e_machine: EM_RISCV
+    ∷ (4, 1)  -- e_version: EV_CURRENT
+    ∷ (8, entry)  -- e_entry
+    ∷ (8, 64)  -- e_phoff
+    ∷ (8, heads_at)  -- e_shoff
+    ∷ (4, 0)  -- e_flags
+    ∷ (2, 64)  -- e_ehsize
+    ∷ (2, 56)  -- e_phentsize
+    ∷ (2, 2)  -- e_phnum
+    ∷ (2, 64)  -- e_shentsize
+    ∷ (2, 8)  -- e_shnum
+    ∷ (2, 7)  -- e_shstrndx
+    ∷ [])
 
 -- PF_R, and PF_W for what can be written, else PF_X
 abbrev pub flags_of : Segment → ℕ
@@ -45,41 +45,41 @@ flags_of segment = if segment.writable then 6 else 5
 unfoldable pub program_header : Segment → List ℕ
 program_header segment =
     fields (
-      (4, 1)                     -- p_type: PT_LOAD
-      ∷ (4, flags_of segment)    -- p_flags
-      ∷ (8, segment.file_at)     -- p_offset
-      ∷ (8, segment.start)       -- p_vaddr
-      ∷ (8, segment.start)       -- p_paddr
-      ∷ (8, segment.file_size)   -- p_filesz
-      ∷ (8, segment.size)        -- p_memsz
-      ∷ (8, 0x1000)              -- p_align
-      ∷ [])
+    (4, 1)  -- p_type: PT_LOAD
+    ∷ (4, flags_of segment)  -- p_flags
+    ∷ (8, segment.file_at)  -- p_offset
+    ∷ (8, segment.start)  -- p_vaddr
+    ∷ (8, segment.start)  -- p_paddr
+    ∷ (8, segment.file_size)  -- p_filesz
+    ∷ (8, segment.size)  -- p_memsz
+    ∷ (8, 0x1000)  -- p_align
+    ∷ [])
 
 -- the header of a section with an alignment
 unfoldable pub section_header : ℕ → Head → List ℕ
 section_header align head =
     fields (
-      (4, head.name)        -- sh_name
-      ∷ (4, head.kind)      -- sh_type
-      ∷ (8, head.flags)     -- sh_flags
-      ∷ (8, head.start)     -- sh_addr
-      ∷ (8, head.file_at)   -- sh_offset
-      ∷ (8, head.size)      -- sh_size
-      ∷ (4, head.link)      -- sh_link
-      ∷ (4, head.info)      -- sh_info
-      ∷ (8, align)          -- sh_addralign
-      ∷ (8, head.each)      -- sh_entsize
-      ∷ [])
+    (4, head.name)  -- sh_name
+    ∷ (4, head.kind)  -- sh_type
+    ∷ (8, head.flags)  -- sh_flags
+    ∷ (8, head.start)  -- sh_addr
+    ∷ (8, head.file_at)  -- sh_offset
+    ∷ (8, head.size)  -- sh_size
+    ∷ (4, head.link)  -- sh_link
+    ∷ (4, head.info)  -- sh_info
+    ∷ (8, align)  -- sh_addralign
+    ∷ (8, head.each)  -- sh_entsize
+    ∷ [])
 
 -- ---- records: the place, the symbol and the kind, and no addend
 
 unfoldable pub record_of : ℕ → Mark → List ℕ
 record_of home mark =
     fields (
-      (8, home + mark.at)                     -- r_offset
-      ∷ (8, mark.symbol * 2 ^ 32 + mark.kind) -- r_info
-      ∷ (8, 0)                                -- r_addend
-      ∷ [])
+    (8, home + mark.at)  -- r_offset
+    ∷ (8, mark.symbol * 2 ^ 32 + mark.kind)  -- r_info
+    ∷ (8, 0)  -- r_addend
+    ∷ [])
 
 -- those of the marks of a part, whose address is given
 unfoldable pub records : ℕ → List Mark → List ℕ
@@ -91,13 +91,13 @@ records home marks = flat_map (record_of home) marks
 unfoldable pub symbol_entry : ℕ → Symbol → List ℕ
 symbol_entry name symbol =
     fields (
-      (4, name)                 -- st_name
-      ∷ (1, symbol.kind % 16)   -- st_info: STB_LOCAL above the kind
-      ∷ (1, 0)                  -- st_other
-      ∷ (2, symbol.section)     -- st_shndx
-      ∷ (8, symbol.value)       -- st_value
-      ∷ (8, symbol.size)        -- st_size
-      ∷ [])
+    (4, name)  -- st_name
+    ∷ (1, symbol.kind % 16)  -- st_info: STB_LOCAL above the kind
+    ∷ (1, 0)  -- st_other
+    ∷ (2, symbol.section)  -- st_shndx
+    ∷ (8, symbol.value)  -- st_value
+    ∷ (8, symbol.size)  -- st_size
+    ∷ [])
 
 -- the symbols, whose names stand one behind the other from a place on
 unfoldable pub symbol_table : ℕ → List Symbol → List ℕ

@@ -49,13 +49,13 @@ unloaded name kind part link info each =
 unfoldable pub sections : Parts → ℕ → List (ℕ × Head)
 sections parts symbols =
     (0, no_head)
-    ∷ (4, loaded 1 6 parts.text_bytes)                          -- .text: SHF_ALLOC and SHF_EXECINSTR
-    ∷ (8, loaded 7 3 parts.data_bytes)                          -- .data: SHF_WRITE and SHF_ALLOC
-    ∷ (8, unloaded 13 4 parts.text_records 5 1 24)        -- .rela.text: SHT_RELA, the symbol table, .text
-    ∷ (8, unloaded 24 4 parts.data_records 5 2 24)        -- .rela.data: SHT_RELA, the symbol table, .data
-    ∷ (8, unloaded 35 2 parts.symbols 6 symbols 24)       -- .symtab: SHT_SYMTAB, its string table
-    ∷ (8, unloaded 43 3 parts.strings 0 0 0)              -- .strtab: SHT_STRTAB
-    ∷ (8, unloaded 51 3 parts.names 0 0 0)                -- .shstrtab: SHT_STRTAB
+    ∷ (4, loaded 1 6 parts.text_bytes)  -- .text: SHF_ALLOC and SHF_EXECINSTR
+    ∷ (8, loaded 7 3 parts.data_bytes)  -- .data: SHF_WRITE and SHF_ALLOC
+    ∷ (8, unloaded 13 4 parts.text_records 5 1 24)  -- .rela.text: SHT_RELA, the symbol table, .text
+    ∷ (8, unloaded 24 4 parts.data_records 5 2 24)  -- .rela.data: SHT_RELA, the symbol table, .data
+    ∷ (8, unloaded 35 2 parts.symbols 6 symbols 24)  -- .symtab: SHT_SYMTAB, its string table
+    ∷ (8, unloaded 43 3 parts.strings 0 0 0)  -- .strtab: SHT_STRTAB
+    ∷ (8, unloaded 51 3 parts.names 0 0 0)  -- .shstrtab: SHT_STRTAB
     ∷ []
 
 unfoldable pub section_headers : List (ℕ × Head) → List ℕ
@@ -72,15 +72,15 @@ placed file (part ∷ rest) = placed ((file ++ replicate (part.0.at - length fil
 unfoldable pub file_of : Parts → Object → List ℕ
 file_of parts object =
     placed (front (entry_home object) parts) (
-      (parts.text_bytes, code object.words)
-      ∷ (parts.data_bytes, object.bytes)
-      ∷ (parts.text_records, records (home_of parts.text_bytes) (marks_in true object.marks))
-      ∷ (parts.data_records, records (home_of parts.data_bytes) (marks_in false object.marks))
-      ∷ (parts.symbols, symbol_table 0 object.symbols)
-      ∷ (parts.strings, string_table (names_of object.symbols))
-      ∷ (parts.names, string_table section_names)
-      ∷ (parts.heads, section_headers (sections parts (length object.symbols)))
-      ∷ [])
+    (parts.text_bytes, code object.words)
+    ∷ (parts.data_bytes, object.bytes)
+    ∷ (parts.text_records, records (home_of parts.text_bytes) (marks_in true object.marks))
+    ∷ (parts.data_records, records (home_of parts.data_bytes) (marks_in false object.marks))
+    ∷ (parts.symbols, symbol_table 0 object.symbols)
+    ∷ (parts.strings, string_table (names_of object.symbols))
+    ∷ (parts.names, string_table section_names)
+    ∷ (parts.heads, section_headers (sections parts (length object.symbols)))
+    ∷ [])
 
 abbrev pub elf_file : Object → List ℕ
 elf_file object = file_of (parts_of object) object

@@ -104,9 +104,18 @@ pub fn sections(parts: &Parts, symbols: u32) -> [(u64, Head); 8]
         (0, null),
         (4, loaded(1, SHF_ALLOC | SHF_EXECINSTR, &parts.text_bytes)),
         (8, loaded(7, SHF_WRITE | SHF_ALLOC, &parts.data_bytes)),
-        (8, unloaded(13, SHT_RELA, &parts.text_records, 5, 1, ENTRY_SIZE)),
-        (8, unloaded(24, SHT_RELA, &parts.data_records, 5, 2, ENTRY_SIZE)),
-        (8, unloaded(35, SHT_SYMTAB, &parts.symbols, 6, symbols, ENTRY_SIZE)),
+        (
+            8,
+            unloaded(13, SHT_RELA, &parts.text_records, 5, 1, ENTRY_SIZE),
+        ),
+        (
+            8,
+            unloaded(24, SHT_RELA, &parts.data_records, 5, 2, ENTRY_SIZE),
+        ),
+        (
+            8,
+            unloaded(35, SHT_SYMTAB, &parts.symbols, 6, symbols, ENTRY_SIZE),
+        ),
         (8, unloaded(43, SHT_STRTAB, &parts.strings, 0, 0, 0)),
         (8, unloaded(51, SHT_STRTAB, &parts.names, 0, 0, 0)),
     ]

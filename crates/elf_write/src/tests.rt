@@ -49,7 +49,7 @@ const TELLING: [(usize, u32); 24] = [
     (0x2034, 0x0001_0002),
     (0x2050, 0x0001_003c),
     (0x2064, 0x7400_7472),
-    (0x20a4, 0x7274_7368),
+    (0x20a4, 0x7473_6873),
     (0x2120, 4),
     (0x2160, 8),
     (0x21a8, 24),
@@ -149,6 +149,10 @@ fn writes_hello(rt: HostRuntime) {
     let file = write_elf(rt.alloc(), &object).expect(&rt, "memory");
     assert_eq!(rt; file.len(), 8880);
     for (place, word) in TELLING {
-        assert_eq!(rt; word_at(file.as_slice(), place), Some(word), "at {place:#x}");
+        assert_eq!(rt;
+            word_at(file.as_slice(), place),
+            Some(word),
+            "at {place:#x}"
+        );
     }
 }
