@@ -3,6 +3,7 @@ use Rattle.std.proofs.Common.{◌≡◌, ℕ, zero, suc, ◌+◌, ◌*◌, ◌-�
 use Rattle.std.specs.Prelude.{replicate}
 use Rattle.std.specs.List.{concat}
 use Rattle.std.proofs.lemmas.List.{append-nil, length-append, length-replicate}
+use Rattle.std.proofs.Math.Seq.{drop-append_seam, take-append_seam}
 use Rattle.rv_asm.specs.declared.object.Object.{Object}
 use Rattle.rv_asm.specs.declared.object.Mark.{Mark}
 use Rattle.elf_write.specs.declared.parts.Part.{Part}
@@ -29,16 +30,8 @@ abbrev pub AllHeld : List ℕ → List (Part × List ℕ) → Type 0
 AllHeld file [] = Unit {0}
 AllHeld file (p ∷ rest) = Holds file p.0 p.1 × AllHeld file rest
 
-drop_front : (xs ys : List ℕ) → drop (length xs) (xs ++ ys) ≡ ys
-drop_front [] ys = refl
-drop_front (x ∷ xs) ys = drop_front xs ys
-
-take_front : (xs ys : List ℕ) → take (length xs) (xs ++ ys) ≡ xs
-take_front [] ys = refl
-take_front (x ∷ xs) ys = ap (λ (l : List ℕ). x ∷ l) (take_front xs ys)
-
 held : (before bytes tail : List ℕ) (at size : ℕ) → length before ≡ at → length bytes ≡ size → take size (drop at ((before ++ bytes) ++ tail)) ≡ bytes
-held before bytes tail at size a s = rw (← a, ← s, append_assoc, drop_front) (take_front bytes tail)
+held before bytes tail at size a s = rw (← a, ← s, append_assoc, drop-append_seam) (take-append_seam bytes tail)
 
 -- what is laid begins with what was there
 pub begins : (file : List ℕ) (parts : List (Part × List ℕ)) → (tail : List ℕ) × (placed file parts ≡ file ++ tail)
@@ -96,7 +89,7 @@ parts_list object =
     ∷ (heads_part object, section_headers (sections (parts_of object) (length object.symbols)))
     ∷ []
 
-file_is : (object : Object) → elf_file object ≡ placed (front (entry_home object) (parts_of object)) (parts_list object)
+pub file_is : (object : Object) → elf_file object ≡ placed (front (entry_home object) (parts_of object)) (parts_list object)
 unfolding file_of parts_of
 file_is object = refl
 

@@ -1,11 +1,15 @@
--- What the file of an object holds, and where. The places are those that its headers give.
-use Rattle.std.specs.Prelude.{◌≡◌, ℕ, ◌+◌, Bool, true, false, List, length, take, drop}
+-- What the file of an object holds, and where, and what its headers say.
+use Rattle.std.specs.Prelude.{◌≡◌, ℕ, ◌+◌, ◌^◌, ◌<◌, Bool, true, false, List, [], ◌∷◌, length, map, take, drop}
+use Rattle.sh_types.specs.declared.elf.Head.{Head}
+use Rattle.sh_types.specs.declared.elf.Program.{Program}
+use Rattle.sh_types.specs.declared.elf.Segment.{Segment}
+use Rattle.sh_types.specs.Elf.{magic_of, class_of, order_of, type_of, machine_of, entry_of, names_of as names_number_of, programs_of, heads_of}
 use Rattle.rv_asm.specs.declared.object.Object.{Object}
 use Rattle.elf_write.specs.declared.parts.Part.{Part}
 use Rattle.elf_write.specs.declared.parts.Parts.{Parts}
 use Rattle.elf_write.specs.Parts.{home_of, marks_in, names_of, section_names, string_table}
 use Rattle.elf_write.specs.Tables.{records, symbol_table}
-use Rattle.elf_write.specs.Written.{code, sections, section_headers}
+use Rattle.elf_write.specs.Written.{code, entry_home, sections, section_headers, segment_of}
 
 -- the bytes of the part are these
 abbrev pub Holds : List ℕ → Part → List ℕ → Type 0
@@ -22,3 +26,20 @@ pub record HoldsAll (object : Object) (parts : Parts) (file : List ℕ) : Type 0
   pub heads_are : Holds file parts.heads (section_headers (sections parts (length object.symbols)))
   -- nothing is behind the section headers
   pub whole : length file ≡ parts.heads.at + parts.heads.size
+
+abbrev pub loadable : Segment → Program
+loadable segment = record { kind = 1; segment = segment }
+
+pub record SaysAll (object : Object) (parts : Parts) (file : List ℕ) : Type 0 where
+  -- an executable of ELF-64 for RISC-V, with its lowest bytes first
+  pub magic : magic_of file ≡ 0x464c457f
+  pub class : class_of file ≡ 2
+  pub order : order_of file ≡ 1
+  pub kind : type_of file ≡ 2
+  pub machine : machine_of file ≡ 243
+  pub entry : entry_of file ≡ entry_home object
+  -- code is loaded, and data, which can be written
+  pub programs : programs_of file ≡ loadable (segment_of parts.text_bytes false) ∷ loadable (segment_of parts.data_bytes true) ∷ []
+  -- the sections by their numbers, the last with their names
+  pub heads : heads_of file ≡ map (λ (s : ℕ × Head). s.1) (sections parts (length object.symbols))
+  pub names : names_number_of file ≡ 7

@@ -14,9 +14,8 @@ use Rattle.elf_write.specs.Parts.{home_of, marks_in}
 -- ---- headers
 
 -- the header of an executable of RISC-V with two program headers and eight sections, the last with their names
-unfoldable pub file_header : ℕ → ℕ → List ℕ
-file_header entry heads_at =
-    fields (
+abbrev pub header_fields : ℕ → ℕ → List (ℕ × ℕ)
+header_fields entry heads_at =
     (4, 0x464c457f)  -- EI_MAG0 to EI_MAG3: 0x7f, E, L, F
     ∷ (1, 2)  -- EI_CLASS: ELFCLASS64
     ∷ (1, 1)  -- EI_DATA: ELFDATA2LSB
@@ -36,15 +35,17 @@ file_header entry heads_at =
     ∷ (2, 64)  -- e_shentsize
     ∷ (2, 8)  -- e_shnum
     ∷ (2, 7)  -- e_shstrndx
-    ∷ [])
+    ∷ []
+
+unfoldable pub file_header : ℕ → ℕ → List ℕ
+file_header entry heads_at = fields (header_fields entry heads_at)
 
 -- PF_R, and PF_W for what can be written, else PF_X
 abbrev pub flags_of : Segment → ℕ
 flags_of segment = if segment.writable then 6 else 5
 
-unfoldable pub program_header : Segment → List ℕ
-program_header segment =
-    fields (
+abbrev pub program_fields : Segment → List (ℕ × ℕ)
+program_fields segment =
     (4, 1)  -- p_type: PT_LOAD
     ∷ (4, flags_of segment)  -- p_flags
     ∷ (8, segment.file_at)  -- p_offset
@@ -53,12 +54,14 @@ program_header segment =
     ∷ (8, segment.file_size)  -- p_filesz
     ∷ (8, segment.size)  -- p_memsz
     ∷ (8, 0x1000)  -- p_align
-    ∷ [])
+    ∷ []
+
+unfoldable pub program_header : Segment → List ℕ
+program_header segment = fields (program_fields segment)
 
 -- the header of a section with an alignment
-unfoldable pub section_header : ℕ → Head → List ℕ
-section_header align head =
-    fields (
+abbrev pub section_fields : ℕ → Head → List (ℕ × ℕ)
+section_fields align head =
     (4, head.name)  -- sh_name
     ∷ (4, head.kind)  -- sh_type
     ∷ (8, head.flags)  -- sh_flags
@@ -69,17 +72,22 @@ section_header align head =
     ∷ (4, head.info)  -- sh_info
     ∷ (8, align)  -- sh_addralign
     ∷ (8, head.each)  -- sh_entsize
-    ∷ [])
+    ∷ []
+
+unfoldable pub section_header : ℕ → Head → List ℕ
+section_header align head = fields (section_fields align head)
 
 -- ---- records: the place, the symbol and the kind, and no addend
 
-unfoldable pub record_of : ℕ → Mark → List ℕ
-record_of home mark =
-    fields (
+abbrev pub record_fields : ℕ → Mark → List (ℕ × ℕ)
+record_fields home mark =
     (8, home + mark.at)  -- r_offset
     ∷ (8, mark.symbol * 2 ^ 32 + mark.kind)  -- r_info
     ∷ (8, 0)  -- r_addend
-    ∷ [])
+    ∷ []
+
+unfoldable pub record_of : ℕ → Mark → List ℕ
+record_of home mark = fields (record_fields home mark)
 
 -- those of the marks of a part, whose address is given
 unfoldable pub records : ℕ → List Mark → List ℕ
@@ -88,16 +96,18 @@ records home marks = flat_map (record_of home) marks
 -- ---- symbols
 
 -- the symbol, with its name at a place of the string table: a local one, with the default visibility
-unfoldable pub symbol_entry : ℕ → Symbol → List ℕ
-symbol_entry name symbol =
-    fields (
+abbrev pub symbol_fields : ℕ → Symbol → List (ℕ × ℕ)
+symbol_fields name symbol =
     (4, name)  -- st_name
     ∷ (1, symbol.kind % 16)  -- st_info: STB_LOCAL above the kind
     ∷ (1, 0)  -- st_other
     ∷ (2, symbol.section)  -- st_shndx
     ∷ (8, symbol.value)  -- st_value
     ∷ (8, symbol.size)  -- st_size
-    ∷ [])
+    ∷ []
+
+unfoldable pub symbol_entry : ℕ → Symbol → List ℕ
+symbol_entry name symbol = fields (symbol_fields name symbol)
 
 -- the symbols, whose names stand one behind the other from a place on
 unfoldable pub symbol_table : ℕ → List Symbol → List ℕ

@@ -9,6 +9,53 @@ use crate::parts::{Part, Parts};
 use sh_types::Segment;
 use std::alloc::AllocError;
 
+/// \x7fELF, with the lowest byte first.
+const MAGIC: u32 = 0x464c_457f;
+
+const ELFCLASS64: u8 = 2;
+
+const ELFDATA2LSB: u8 = 1;
+
+/// EV_CURRENT, as a byte of the identification.
+const EI_VERSION: u8 = 1;
+
+const EV_CURRENT: u32 = 1;
+
+const ELFOSABI_NONE: u8 = 0;
+
+const ET_EXEC: u16 = 2;
+
+const EM_RISCV: u16 = 243;
+
+/// The bytes of the header.
+const HEADER_SIZE: u16 = 64;
+
+/// Where the program headers stand.
+const PROGRAMS_AT: u64 = 64;
+
+const PROGRAM_SIZE: u16 = 56;
+
+const PROGRAMS: u16 = 2;
+
+const SECTION_SIZE: u16 = 64;
+
+const SECTIONS: u16 = 8;
+
+/// The number of .shstrtab.
+const SHSTRTAB: u16 = 7;
+
+const PT_LOAD: u32 = 1;
+
+// The bits of p_flags.
+const PF_X: u32 = 1;
+
+const PF_W: u32 = 2;
+
+const PF_R: u32 = 4;
+
+/// p_align of both segments.
+const PAGE: u64 = 0x1000;
+
 /// Appends the header: the entry's address, and the place of the section headers.
 #[tactic(auto, unfolding(crate::specs::Tables::file_header))]
 fn put_header(file: &mut Vec<u8>, entry: u64, heads_at: u64) -> Result<(), AllocError>
@@ -17,25 +64,25 @@ fn put_header(file: &mut Vec<u8>, entry: u64, heads_at: u64) -> Result<(), Alloc
     put(
         file,
         &[
-            Word(0x464c_457f),
-            Byte(2),
-            Byte(1),
-            Byte(1),
-            Byte(0),
+            Word(MAGIC),
+            Byte(ELFCLASS64),
+            Byte(ELFDATA2LSB),
+            Byte(EI_VERSION),
+            Byte(ELFOSABI_NONE),
             Xword(0),
-            Half(2),
-            Half(243),
-            Word(1),
+            Half(ET_EXEC),
+            Half(EM_RISCV),
+            Word(EV_CURRENT),
             Xword(entry),
-            Xword(64),
+            Xword(PROGRAMS_AT),
             Xword(heads_at),
             Word(0),
-            Half(64),
-            Half(56),
-            Half(2),
-            Half(64),
-            Half(8),
-            Half(7),
+            Half(HEADER_SIZE),
+            Half(PROGRAM_SIZE),
+            Half(PROGRAMS),
+            Half(SECTION_SIZE),
+            Half(SECTIONS),
+            Half(SHSTRTAB),
         ],
     )
 }
@@ -48,14 +95,14 @@ fn put_program(file: &mut Vec<u8>, segment: &Segment) -> Result<(), AllocError>
     put(
         file,
         &[
-            Word(1),
-            Word(if segment.writable { 6 } else { 5 }),
+            Word(PT_LOAD),
+            Word(PF_R | if segment.writable { PF_W } else { PF_X }),
             Xword(segment.file_at),
             Xword(segment.start),
             Xword(segment.start),
             Xword(segment.file_size),
             Xword(segment.size),
-            Xword(0x1000),
+            Xword(PAGE),
         ],
     )
 }

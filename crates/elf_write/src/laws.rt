@@ -1,11 +1,18 @@
 //! What the file of an object has.
+ghost use Rattle.std.specs.Prelude.{◌<◌, ◌^◌};
 ghost use Rattle.rv_asm.specs.declared.object.Object.{Object};
-ghost use Rattle.elf_write.specs.Held.{HoldsAll};
+ghost use Rattle.elf_write.specs.Held.{HoldsAll, SaysAll};
 ghost use Rattle.elf_write.specs.Parts.{parts_of};
 ghost use Rattle.elf_write.specs.Writable.{IsWritable};
-ghost use Rattle.elf_write.specs.Written.{elf_file};
+ghost use Rattle.elf_write.specs.Written.{elf_file, entry_home};
 
 /// The file of an object has each part where its headers say, and ends with the section headers.
 pub fn files_hold_their_parts()
     ensures { (object : Object) → IsWritable object → HoldsAll object (parts_of object) (elf_file object) }
+{}
+
+/// Reading the headers of the file of an object gives where its parts are, where the entry's address is a number of
+/// eight bytes.
+pub fn files_say_where()
+    ensures { (object : Object) → IsWritable object → entry_home object < 2 ^ 64 → SaysAll object (parts_of object) (elf_file object) }
 {}

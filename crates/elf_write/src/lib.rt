@@ -12,7 +12,7 @@ mod strings;
 mod symbols;
 mod write;
 
-pub use laws::files_hold_their_parts;
+pub use laws::{files_hold_their_parts, files_say_where};
 pub use write::write_elf;
 
 #[cfg(test)]

@@ -25,6 +25,15 @@ const SHF_ALLOC: u64 = 2;
 
 const SHF_EXECINSTR: u64 = 4;
 
+// The numbers of sections that others name.
+const TEXT: u32 = 1;
+
+const DATA: u32 = 2;
+
+const SYMTAB: u32 = 5;
+
+const STRTAB: u32 = 6;
+
 /// Appends a section's header.
 #[tactic(auto, unfolding(crate::specs::Tables::section_header))]
 fn put_head(file: &mut Vec<u8>, align: u64, head: &Head) -> Result<(), AllocError>
@@ -89,6 +98,7 @@ pub fn sections(parts: &Parts, symbols: u32) -> [(u64, Head); 8]
     requires data_near { parts.now.data_bytes.at < 2 ^ 60 }
     ensures { result ≡ written.sections parts.now symbols }
 {
+    let each = ENTRY_SIZE;
     let null = Head {
         name: 0,
         kind: 0,
@@ -106,15 +116,15 @@ pub fn sections(parts: &Parts, symbols: u32) -> [(u64, Head); 8]
         (8, loaded(7, SHF_WRITE | SHF_ALLOC, &parts.data_bytes)),
         (
             8,
-            unloaded(13, SHT_RELA, &parts.text_records, 5, 1, ENTRY_SIZE),
+            unloaded(13, SHT_RELA, &parts.text_records, SYMTAB, TEXT, each),
         ),
         (
             8,
-            unloaded(24, SHT_RELA, &parts.data_records, 5, 2, ENTRY_SIZE),
+            unloaded(24, SHT_RELA, &parts.data_records, SYMTAB, DATA, each),
         ),
         (
             8,
-            unloaded(35, SHT_SYMTAB, &parts.symbols, 6, symbols, ENTRY_SIZE),
+            unloaded(35, SHT_SYMTAB, &parts.symbols, STRTAB, symbols, each),
         ),
         (8, unloaded(43, SHT_STRTAB, &parts.strings, 0, 0, 0)),
         (8, unloaded(51, SHT_STRTAB, &parts.names, 0, 0, 0)),
