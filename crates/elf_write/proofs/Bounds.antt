@@ -4,7 +4,7 @@ use Rattle.sh_types.specs.declared.elf.Head.{Head}
 use Rattle.rv_asm.specs.declared.object.Object.{Object}
 use Rattle.elf_write.specs.declared.parts.Part.{Part}
 use Rattle.elf_write.specs.declared.parts.Parts.{Parts}
-use Rattle.elf_write.specs.Parts.{home_of, marks_in, names_of, section_names, string_table, behind, text_part, data_part, text_records_part, data_records_part, symbols_part, strings_part, names_part, heads_part, parts_of}
+use Rattle.elf_write.specs.Parts.{home_of, marks_in, names_in, section_names, string_table, behind, text_part, data_part, text_records_part, data_records_part, symbols_part, strings_part, names_part, heads_part, parts_of}
 use Rattle.elf_write.specs.Writable.{IsWritable}
 use Rattle.elf_write.specs.Written.{loaded, unloaded, sections, segment_of}
 use Rattle.elf_write.proofs.Marks.{few_marks, few_symbols}
@@ -47,7 +47,7 @@ strings_low : (object : Object) → IsWritable object → (strings_part object).
 unfolding strings_part
 strings_low object w =
     let few = w.names in
-    let low = low_behind (symbols_part object) (length (string_table (names_of object.symbols))) (2 ^ 38) (2 ^ 32) (symbols_low object w) (omega arith) in
+    let low = low_behind (symbols_part object) (length (string_table (names_in object.symbols))) (2 ^ 38) (2 ^ 32) (symbols_low object w) (omega arith) in
     omega arith
 
 names_size : length (string_table section_names) ≡ 61

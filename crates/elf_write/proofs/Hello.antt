@@ -6,7 +6,7 @@ use Rattle.std.specs.List.Sorted.{IsStrictlyIncreasing}
 use Rattle.std.proofs.lemmas.List.Elements.{All-cons}
 use Rattle.rv_asm.specs.declared.object.Object.{Object}
 use Rattle.rv_asm.specs.declared.object.Mark.{Mark}
-use Rattle.elf_write.specs.Parts.{marks_in, string_table, names_of, text_part, data_part}
+use Rattle.elf_write.specs.Parts.{marks_in, string_table, names_in, text_part, data_part}
 use Rattle.elf_write.specs.Writable.{IsMark, IsWritable, marked}
 
 abbrev pub the_mark : Mark
@@ -20,7 +20,7 @@ data_rises : IsStrictlyIncreasing (marked false (the_mark ∷ []))
 unfolding marked marks_in
 data_rises k short = absurd (omega arith)
 
-pub writable : (object : Object) → length (concat object.words) ≡ 17 → object.bytes ≡ [] → object.entry ≡ 0 → length object.functions ≡ 2 → length object.symbols ≡ 3 → names_of object.symbols ≡ [] ∷ codes "start" ∷ codes "three" ∷ [] → object.marks ≡ the_mark ∷ [] → IsWritable object
+pub writable : (object : Object) → length (concat object.words) ≡ 17 → object.bytes ≡ [] → object.entry ≡ 0 → length object.functions ≡ 2 → length object.symbols ≡ 3 → names_in object.symbols ≡ [] ∷ codes "start" ∷ codes "three" ∷ [] → object.marks ≡ the_mark ∷ [] → IsWritable object
 unfolding text_part data_part string_table
 writable object words bytes entry functions count names marks =
     let one : IsMark object the_mark = record { inside = omega arith; symbol = omega arith } in

@@ -9,7 +9,7 @@ use Rattle.rv_asm.specs.declared.object.Mark.{Mark}
 use Rattle.elf_write.specs.declared.parts.Part.{Part}
 use Rattle.elf_write.specs.declared.parts.Parts.{Parts}
 use Rattle.elf_write.specs.Held.{Holds, HoldsAll}
-use Rattle.elf_write.specs.Parts.{home_of, marks_in, names_of, section_names, string_table, behind, text_part, data_part, text_records_part, data_records_part, symbols_part, strings_part, names_part, heads_part, parts_of}
+use Rattle.elf_write.specs.Parts.{home_of, marks_in, names_in, section_names, string_table, behind, text_part, data_part, text_records_part, data_records_part, symbols_part, strings_part, names_part, heads_part, parts_of}
 use Rattle.elf_write.specs.Tables.{records, symbol_table}
 use Rattle.elf_write.specs.Writable.{IsWritable}
 use Rattle.elf_write.specs.Written.{code, entry_home, front, sections, section_headers, placed, file_of, elf_file}
@@ -84,7 +84,7 @@ parts_list object =
     ∷ (text_records_part object, records (home_of (text_part object)) (marks_in true object.marks))
     ∷ (data_records_part object, records (home_of (data_part object)) (marks_in false object.marks))
     ∷ (symbols_part object, symbol_table 0 object.symbols)
-    ∷ (strings_part object, string_table (names_of object.symbols))
+    ∷ (strings_part object, string_table (names_in object.symbols))
     ∷ (names_part object, string_table section_names)
     ∷ (heads_part object, section_headers (sections (parts_of object) (length object.symbols)))
     ∷ []
@@ -125,23 +125,23 @@ data_records_size : (object : Object) → length (records (home_of (data_part ob
 unfolding data_records_part
 data_records_size object = length_records _ _ ∙ size_behind (text_records_part object) _
 
-symbols_at : (object : Object) → (data_records_part object).at + (data_records_part object).size ≤ (symbols_part object).at
+pub symbols_at : (object : Object) → (data_records_part object).at + (data_records_part object).size ≤ (symbols_part object).at
 unfolding symbols_part
 symbols_at object = after (data_records_part object) _
 
-symbols_size : (object : Object) → length (symbol_table 0 object.symbols) ≡ (symbols_part object).size
+pub symbols_size : (object : Object) → length (symbol_table 0 object.symbols) ≡ (symbols_part object).size
 unfolding symbols_part
 symbols_size object = length_symbols 0 object.symbols ∙ size_behind (data_records_part object) _
 
-strings_at : (object : Object) → (symbols_part object).at + (symbols_part object).size ≤ (strings_part object).at
+pub strings_at : (object : Object) → (symbols_part object).at + (symbols_part object).size ≤ (strings_part object).at
 unfolding strings_part
 strings_at object = after (symbols_part object) _
 
-strings_size : (object : Object) → length (string_table (names_of object.symbols)) ≡ (strings_part object).size
+pub strings_size : (object : Object) → length (string_table (names_in object.symbols)) ≡ (strings_part object).size
 unfolding strings_part
 strings_size object = size_behind (symbols_part object) _
 
-names_at : (object : Object) → (strings_part object).at + (strings_part object).size ≤ (names_part object).at
+pub names_at : (object : Object) → (strings_part object).at + (strings_part object).size ≤ (names_part object).at
 unfolding names_part
 names_at object = after (strings_part object) _
 
@@ -149,7 +149,7 @@ names_size : (object : Object) → length (string_table section_names) ≡ (name
 unfolding names_part
 names_size object = size_behind (strings_part object) _
 
-heads_at : (object : Object) → (names_part object).at + (names_part object).size ≤ (heads_part object).at
+pub heads_at : (object : Object) → (names_part object).at + (names_part object).size ≤ (heads_part object).at
 unfolding heads_part
 heads_at object = after (names_part object) _
 

@@ -3,6 +3,7 @@ pub mod Hello
 pub mod Laying
 pub mod Little
 pub mod Marks
+pub mod Naming
 pub mod Numbers
 pub mod Reading
 pub mod Saying

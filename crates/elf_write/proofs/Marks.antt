@@ -9,7 +9,7 @@ use Rattle.sh_types.specs.declared.elf.Symbol.{Symbol}
 use Rattle.rv_asm.specs.declared.object.Object.{Object}
 use Rattle.rv_asm.specs.declared.object.Mark.{Mark}
 use Rattle.elf_write.specs.declared.parts.Part.{Part}
-use Rattle.elf_write.specs.Parts.{is_in, marks_in, string_table, names_of, text_part, data_part}
+use Rattle.elf_write.specs.Parts.{is_in, marks_in, string_table, names_in, text_part, data_part}
 use Rattle.elf_write.specs.Writable.{IsMark, IsWritable, marked}
 
 -- numbers that rise are at least their places
@@ -61,7 +61,7 @@ placed_marks object w home low =
     All-weaker (λ (m : Mark). m.at < 67108864) (λ (m : Mark). home + m.at < 2 ^ 64) (λ m h. omega arith) object.marks (low_marks object w)
 
 -- each symbol has a byte of the string table at least
-at_most_bytes : (symbols : List Symbol) → length symbols ≤ length (string_table (names_of symbols))
+at_most_bytes : (symbols : List Symbol) → length symbols ≤ length (string_table (names_in symbols))
 unfolding string_table
 at_most_bytes [] = omega arith
 at_most_bytes (s ∷ symbols) =

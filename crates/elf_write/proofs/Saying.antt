@@ -5,7 +5,7 @@ use Rattle.std.proofs.lemmas.List.{append-nil, length-append, length-drop, lengt
 use Rattle.sh_types.specs.declared.elf.Head.{Head}
 use Rattle.sh_types.specs.declared.elf.Program.{Program}
 use Rattle.sh_types.specs.declared.elf.Segment.{Segment}
-use Rattle.sh_types.specs.Elf.{number_at, head_at, program, places, program_at, program_count, section_at, section_count, magic_of, class_of, order_of, type_of, machine_of, entry_of, names_of as names_number_of, programs_of, heads_of}
+use Rattle.sh_types.specs.Elf.{number_at, head_at, program, places, program_at, program_count, section_at, section_count, magic_of, class_of, order_of, type_of, machine_of, entry_of, names_of, programs_of, heads_of, loads}
 use Rattle.rv_asm.specs.declared.object.Object.{Object}
 use Rattle.elf_write.specs.declared.parts.Parts.{Parts}
 use Rattle.elf_write.specs.Fields.{fields}
@@ -102,6 +102,7 @@ says_all object w entry_fits =
     let low = heads_low object w in
     let at_low : (heads_part object).at < 2 ^ 64 = omega arith in
     let parts_held = holds_all object w in
+    let programs = programs_are file entry at text stored start.0 is (text_fits object w) (data_fits object w) in
     record {
       magic = header_says file entry at behind 0 header (omega arith) (omega arith);
       class = header_says file entry at behind 1 header (omega arith) (omega arith);
@@ -109,7 +110,8 @@ says_all object w entry_fits =
       kind = header_says file entry at behind 6 header (omega arith) (omega arith);
       machine = header_says file entry at behind 7 header (omega arith) (omega arith);
       entry = header_says file entry at behind 9 header (omega arith) entry_fits;
-      programs = programs_are file entry at text stored start.0 is (text_fits object w) (data_fits object w);
+      programs = programs;
+      segments = ap loads programs;
       heads =
           sections_are file entry at (heads_part object).size (sections (parts_of object) (length object.symbols)) behind header at_low (eight_sections (parts_of object) (length object.symbols)) parts_held.whole parts_held.heads_are (sections_fit object w);
       names = header_says file entry at behind 18 header (omega arith) (omega arith);

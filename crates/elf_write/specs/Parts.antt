@@ -26,8 +26,8 @@ unfoldable pub string_table : List (List ℕ) → List ℕ
 string_table names = flat_map (λ name. name ++ 0 ∷ []) names
 
 -- the names of the symbols; the first symbol is the null symbol, which has none
-abbrev pub names_of : List Symbol → List (List ℕ)
-names_of symbols = map (λ (s : Symbol). s.name) symbols
+abbrev pub names_in : List Symbol → List (List ℕ)
+names_in symbols = map (λ (s : Symbol). s.name) symbols
 
 -- the names of the sections, by their numbers; the null section has none
 abbrev pub section_names : List (List ℕ)
@@ -68,7 +68,7 @@ unfoldable pub symbols_part : Object → Part
 symbols_part object = behind (data_records_part object) (24 * length object.symbols)
 
 unfoldable pub strings_part : Object → Part
-strings_part object = behind (symbols_part object) (length (string_table (names_of object.symbols)))
+strings_part object = behind (symbols_part object) (length (string_table (names_in object.symbols)))
 
 unfoldable pub names_part : Object → Part
 names_part object = behind (strings_part object) (length (string_table section_names))

@@ -5,7 +5,7 @@ use Rattle.std.specs.List.Sorted.{IsStrictlyIncreasing}
 use Rattle.rv_asm.specs.declared.object.Object.{Object}
 use Rattle.rv_asm.specs.declared.object.Mark.{Mark}
 use Rattle.elf_write.specs.declared.parts.Part.{Part}
-use Rattle.elf_write.specs.Parts.{marks_in, string_table, names_of, text_part, data_part}
+use Rattle.elf_write.specs.Parts.{marks_in, string_table, names_in, text_part, data_part}
 
 -- the mark lies in its part, and names a symbol
 pub record IsMark (object : Object) (mark : Mark) : Type 0 where
@@ -21,7 +21,7 @@ pub record IsWritable (object : Object) : Type 0 where
   pub text : (text_part object).size ≤ 67108864
   pub data_size : (data_part object).size ≤ 67108864
   -- places in the string table are numbers of four bytes
-  pub names : length (string_table (names_of object.symbols)) < 2 ^ 32 - 1
+  pub names : length (string_table (names_in object.symbols)) < 2 ^ 32 - 1
   -- the entry is a function
   pub entry : object.entry < length object.functions
   pub marks : All (IsMark object) object.marks

@@ -9,7 +9,7 @@ use Rattle.rv_asm.specs.declared.object.Object.{Object}
 use Rattle.elf_write.specs.declared.parts.Part.{Part}
 use Rattle.elf_write.specs.declared.parts.Parts.{Parts}
 use Rattle.elf_write.specs.Fields.{little}
-use Rattle.elf_write.specs.Parts.{marks_in, string_table, names_of, section_names, home_of, parts_of}
+use Rattle.elf_write.specs.Parts.{marks_in, string_table, names_in, section_names, home_of, parts_of}
 use Rattle.elf_write.specs.Tables.{file_header, program_header, section_header, records, symbol_table}
 
 -- ---- code and segments
@@ -77,7 +77,7 @@ file_of parts object =
     ∷ (parts.text_records, records (home_of parts.text_bytes) (marks_in true object.marks))
     ∷ (parts.data_records, records (home_of parts.data_bytes) (marks_in false object.marks))
     ∷ (parts.symbols, symbol_table 0 object.symbols)
-    ∷ (parts.strings, string_table (names_of object.symbols))
+    ∷ (parts.strings, string_table (names_in object.symbols))
     ∷ (parts.names, string_table section_names)
     ∷ (parts.heads, section_headers (sections parts (length object.symbols)))
     ∷ [])

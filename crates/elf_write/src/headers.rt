@@ -5,7 +5,7 @@ ghost use Rattle.elf_write.specs.Written as written;
 
 use crate::fields::Field::{Byte, Half, Word, Xword};
 use crate::fields::put;
-use crate::parts::{Part, Parts};
+use crate::parts::{PAGE, Part, Parts};
 use sh_types::Segment;
 use std::alloc::AllocError;
 
@@ -16,7 +16,7 @@ const ELFCLASS64: u8 = 2;
 
 const ELFDATA2LSB: u8 = 1;
 
-/// EV_CURRENT, as a byte of the identification.
+/// EV_CURRENT, in e_ident and in e_version.
 const EI_VERSION: u8 = 1;
 
 const EV_CURRENT: u32 = 1;
@@ -52,9 +52,6 @@ const PF_X: u32 = 1;
 const PF_W: u32 = 2;
 
 const PF_R: u32 = 4;
-
-/// p_align of both segments.
-const PAGE: u64 = 0x1000;
 
 /// Appends the header: the entry's address, and the place of the section headers.
 #[tactic(auto, unfolding(crate::specs::Tables::file_header))]

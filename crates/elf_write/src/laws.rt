@@ -1,7 +1,9 @@
 //! What the file of an object has.
-ghost use Rattle.std.specs.Prelude.{◌<◌, ◌^◌};
+ghost use Rattle.std.specs.List.{All};
+ghost use Rattle.std.specs.Prelude.{◌≡◌, ◌<◌, ◌^◌};
 ghost use Rattle.rv_asm.specs.declared.object.Object.{Object};
-ghost use Rattle.elf_write.specs.Held.{HoldsAll, SaysAll};
+ghost use Rattle.sh_types.specs.Elf.{symbols_of};
+ghost use Rattle.elf_write.specs.Held.{HoldsAll, IsPlain, SaysAll};
 ghost use Rattle.elf_write.specs.Parts.{parts_of};
 ghost use Rattle.elf_write.specs.Writable.{IsWritable};
 ghost use Rattle.elf_write.specs.Written.{elf_file, entry_home};
@@ -15,4 +17,9 @@ pub fn files_hold_their_parts()
 /// eight bytes.
 pub fn files_say_where()
     ensures { (object : Object) → IsWritable object → entry_home object < 2 ^ 64 → SaysAll object (parts_of object) (elf_file object) }
+{}
+
+/// Reading the symbols of the file of an object, with their names, gives those of the object.
+pub fn files_name_their_symbols()
+    ensures { (object : Object) → IsWritable object → entry_home object < 2 ^ 64 → All IsPlain object.symbols → symbols_of (elf_file object) ≡ object.symbols }
 {}

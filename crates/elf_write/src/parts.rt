@@ -14,8 +14,8 @@ const TEXT_AT: u64 = 0x1000;
 /// What the address of code and data is more than the place in the file.
 const HOME_ABOVE_PLACE: u64 = 0xf000;
 
-/// The alignment of code and data.
-const PAGE: u64 = 0x1000;
+/// The alignment of code and data, in the file and in memory.
+pub const PAGE: u64 = 0x1000;
 
 /// The bytes of an entry of .rela.text and .rela.data, and of .symtab.
 pub const ENTRY_SIZE: u64 = 24;

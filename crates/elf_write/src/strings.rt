@@ -1,6 +1,6 @@
 //! String tables (System V gABI, "String Table").
 ghost use Rattle.std.specs.Prelude.{◌≡◌, ◌++◌, ◌^◌, ◌<◌, length, OnOk};
-ghost use Rattle.elf_write.specs.Parts.{string_table, names_of, section_names};
+ghost use Rattle.elf_write.specs.Parts.{string_table, names_in, section_names};
 
 use sh_types::Symbol;
 use std::alloc::AllocError;
@@ -12,8 +12,8 @@ pub const SECTION_NAMES: &[u8] =
 /// The bytes of the string table of the symbols.
 #[tactic(auto, unfolding(crate::specs::Parts::string_table))]
 pub fn strings_size(symbols: &[Symbol]) -> u64
-    requires { length (string_table (names_of symbols.now)) < 2 ^ 32 }
-    ensures value { result ≡ length (string_table (names_of symbols.now)) }
+    requires { length (string_table (names_in symbols.now)) < 2 ^ 32 }
+    ensures value { result ≡ length (string_table (names_in symbols.now)) }
     ensures small { result < 2 ^ 32 }
 {
     let mut size = 0;
@@ -26,7 +26,7 @@ pub fn strings_size(symbols: &[Symbol]) -> u64
 /// Appends the names of the symbols, each with a zero byte behind it.
 #[tactic(auto, unfolding(crate::specs::Parts::string_table))]
 pub fn put_strings(file: &mut Vec<u8>, symbols: &[Symbol]) -> Result<(), AllocError>
-    ensures { OnOk result (file.new.items ≡ file.old.items ++ string_table (names_of symbols.now)) }
+    ensures { OnOk result (file.new.items ≡ file.old.items ++ string_table (names_in symbols.now)) }
 {
     for symbol in symbols {
         file.extend_from_slice(symbol.name.as_slice())?;

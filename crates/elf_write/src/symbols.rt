@@ -1,6 +1,6 @@
 //! The symbol table (System V gABI, "Symbol Table").
 ghost use Rattle.std.specs.Prelude.{◌≡◌, ◌++◌, ◌^◌, ◌<◌, length, OnOk};
-ghost use Rattle.elf_write.specs.Parts.{string_table, names_of};
+ghost use Rattle.elf_write.specs.Parts.{string_table, names_in};
 ghost use Rattle.elf_write.specs.Tables.{symbol_entry, symbol_table};
 
 use crate::fields::Field::{Byte, Half, Word, Xword};
@@ -32,7 +32,7 @@ fn put_symbol(file: &mut Vec<u8>, name: u32, symbol: &Symbol) -> Result<(), Allo
 /// Appends the symbols, whose names stand in their order in the string table.
 #[tactic(auto, unfolding(crate::specs::Parts::string_table, crate::specs::Tables::symbol_table))]
 pub fn put_symbols(file: &mut Vec<u8>, symbols: &[Symbol]) -> Result<(), AllocError>
-    requires { length (string_table (names_of symbols.now)) < 2 ^ 32 }
+    requires { length (string_table (names_in symbols.now)) < 2 ^ 32 }
     ensures { OnOk result (file.new.items ≡ file.old.items ++ symbol_table 0 symbols.now) }
 {
     let mut name = 0;

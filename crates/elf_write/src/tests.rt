@@ -1,7 +1,7 @@
 //! The file of a guest that writes three bytes and exits.
 ghost use Rattle.std.specs.Prelude.{◌≡◌, ◌∷◌, [], true, codes, length, IfOk};
 ghost use Rattle.std.specs.List.{concat};
-ghost use Rattle.elf_write.specs.Parts.{names_of};
+ghost use Rattle.elf_write.specs.Parts.{names_in};
 ghost use Rattle.elf_write.specs.Writable.{IsWritable};
 
 use crate::write_elf;
@@ -98,7 +98,7 @@ fn functions(alloc: Global) -> Result<Items<Function>, AllocError>
 
 fn symbols(alloc: Global) -> Result<Items<Symbol>, AllocError>
     ensures count { IfOk result (λ symbols. length symbols ≡ 3) }
-    ensures names { IfOk result (λ symbols. names_of symbols ≡ [] ∷ codes "start" ∷ codes "three" ∷ []) }
+    ensures names { IfOk result (λ symbols. names_in symbols ≡ [] ∷ codes "start" ∷ codes "three" ∷ []) }
 {
     let mut symbols = Items::new(alloc);
     symbols.push(symbol(alloc, b"", 0, 0, 0)?)?;

@@ -1,6 +1,6 @@
 //! Writes the file.
 ghost use Rattle.std.specs.Prelude.{◌≡◌, ◌++◌, ◌^◌, ◌<◌, ◌∷◌, [], true, false, length, IfOk, OnOk};
-ghost use Rattle.elf_write.specs.Parts.{home_of, marks_in, names_of, parts_of, section_names, string_table};
+ghost use Rattle.elf_write.specs.Parts.{home_of, marks_in, names_in, parts_of, section_names, string_table};
 ghost use Rattle.elf_write.specs.Tables.{records, symbol_table};
 ghost use Rattle.elf_write.specs.Writable.{IsWritable};
 ghost use Rattle.elf_write.specs.Written.{code, elf_file, entry_home as entry_home_of, placed, sections as sections_of, section_headers};
@@ -55,7 +55,7 @@ fn put_marks(file: &mut Vec<u8>, object: &Object, parts: &Parts) -> Result<(), A
 #[tactic(auto, unfolding(crate::specs::Written::placed))]
 fn put_names(file: &mut Vec<u8>, object: &Object, parts: &Parts) -> Result<(), AllocError>
     requires { IsWritable object.now }
-    ensures { OnOk result (file.new.items ≡ placed file.old.items ((parts.now.symbols, symbol_table 0 object.now.symbols) ∷ (parts.now.strings, string_table (names_of object.now.symbols)) ∷ (parts.now.names, string_table section_names) ∷ [])) }
+    ensures { OnOk result (file.new.items ≡ placed file.old.items ((parts.now.symbols, symbol_table 0 object.now.symbols) ∷ (parts.now.strings, string_table (names_in object.now.symbols)) ∷ (parts.now.names, string_table section_names) ∷ [])) }
 {
     let symbols = object.symbols.as_slice();
     fill(file, parts.symbols.at)?;
