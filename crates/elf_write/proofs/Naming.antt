@@ -1,5 +1,5 @@
 -- Symbols that were written are read back, with their names.
-use Rattle.std.proofs.Common.{◌≡◌, ℕ, zero, suc, ◌+◌, ◌*◌, ◌/◌, ◌%◌, ◌^◌, ◌<◌, ◌≤◌, Bool, true, false, cond, List, [], ◌∷◌, ◌++◌, length, map, take, drop, refl, ap, sym, ◌∙◌, append_assoc, arith}
+use Rattle.std.proofs.Common.{◌≡◌, ℕ, ◌+◌, ◌*◌, ◌/◌, ◌%◌, ◌^◌, ◌<◌, ◌≤◌, Bool, true, cond, List, [], ◌∷◌, ◌++◌, length, map, take, drop, refl, ap, sym, ◌∙◌, append_assoc, arith}
 use Rattle.std.specs.Prelude.{◌==◌, not, nat_le, take_while, filter, unwrap_or, if◌then◌else◌}
 use Rattle.std.specs.List.{All}
 use Rattle.std.proofs.Math.Nat.{mod-eq_of_lt, mul-div_cancel_left}
@@ -18,7 +18,7 @@ use Rattle.elf_write.specs.declared.parts.Part.{Part}
 use Rattle.elf_write.specs.declared.parts.Parts.{Parts}
 use Rattle.elf_write.specs.Fields.{fields}
 use Rattle.elf_write.specs.Held.{Holds, IsPlain}
-use Rattle.elf_write.specs.Parts.{names_in, string_table, symbols_part, strings_part, names_part, heads_part, parts_of}
+use Rattle.elf_write.specs.Parts.{names_in, string_table, symbols_part, strings_part, heads_part, parts_of}
 use Rattle.elf_write.specs.Tables.{symbol_fields, symbol_entry, symbol_table}
 use Rattle.elf_write.specs.Writable.{IsWritable}
 use Rattle.elf_write.specs.Written.{entry_home, sections, unloaded, elf_file}
@@ -47,7 +47,7 @@ name_read : (before name rest : List ℕ) (place : ℕ) → length before ≡ pl
 unfolding name_at
 name_read before name rest place start above =
     let front : drop place (before ++ ((name ++ 0 ∷ []) ++ rest)) ≡ (name ++ 0 ∷ []) ++ rest =
-      ap (λ (n : ℕ). drop n (before ++ ((name ++ 0 ∷ []) ++ rest))) (sym start) ∙ drop-append_seam before ((name ++ 0 ∷ []) ++ rest) in
+    ap (λ (n : ℕ). drop n (before ++ ((name ++ 0 ∷ []) ++ rest))) (sym start) ∙ drop-append_seam before ((name ++ 0 ∷ []) ++ rest) in
     ap (λ (l : List ℕ). take_while (λ c. not (c == 0)) l) front ∙ name_front name rest above
 
 -- ---- an entry
@@ -98,8 +98,8 @@ all_read before behind names at place (s ∷ rest) start names_start low plain =
     let next : length (before ++ entry) ≡ at + 24 = rw (length-append, start, length_symbol) in
     let names_next : length (names ++ name) ≡ place + length s.name + 1 = simp length-append (omega arith) in
     let first : read (names ++ (name ++ strings)) ((before ++ (entry ++ more)) ++ behind) at ≡ s =
-      ap (λ (b : List ℕ). read (names ++ (name ++ strings)) b at) first_bytes
-      ∙ one_read before (more ++ behind) names strings at place s start names_start here_low (All-head IsPlain s rest plain) in
+    ap (λ (b : List ℕ). read (names ++ (name ++ strings)) b at) first_bytes
+    ∙ one_read before (more ++ behind) names strings at place s start names_start here_low (All-head IsPlain s rest plain) in
     let others = all_read (before ++ entry) behind (names ++ name) (at + 24) (place + length s.name + 1) rest next names_next next_low (All-tail IsPlain s rest plain) in
     ap (λ (x : Symbol). x ∷ map (read (names ++ (name ++ strings)) ((before ++ (entry ++ more)) ++ behind)) (places 24 (at + 24) (length rest))) first
     ∙ ap (λ (b : List ℕ). s ∷ map (read (names ++ (name ++ strings)) b) (places 24 (at + 24) (length rest))) bytes_are
@@ -113,7 +113,7 @@ within : (file : List ℕ) (part : Part) (bytes : List ℕ) → Holds file part 
 within file part bytes held =
     let rest = drop part.size (drop part.at file) in
     let split : drop part.at file ≡ bytes ++ rest =
-      sym (take-append-drop part.size (drop part.at file)) ∙ ap (λ (b : List ℕ). b ++ rest) held in
+    sym (take-append-drop part.size (drop part.at file)) ∙ ap (λ (b : List ℕ). b ++ rest) held in
     sym (take-append-drop part.at file)
     ∙ ap (λ (b : List ℕ). take part.at file ++ b) split
     ∙ sym (append_assoc (take part.at file) bytes rest)
@@ -160,7 +160,7 @@ raws_from : (file : List ℕ) (part : Part) (symbols : List Symbol) → table_of
 unfolding raws_of
 raws_from file part symbols table size =
     let count : part.size / 24 ≡ length symbols =
-      ap (λ (n : ℕ). n / 24) size ∙ mul-div_cancel_left (length symbols) (omega arith) in
+    ap (λ (n : ℕ). n / 24) size ∙ mul-div_cancel_left (length symbols) (omega arith) in
     ap (λ (t : Head). map (raw_symbol file) (places 24 t.file_at (t.size / 24))) table
     ∙ ap (λ (n : ℕ). map (raw_symbol file) (places 24 part.at n)) count
 
@@ -180,8 +180,8 @@ symbols_are object w entry_fits plain =
     let strings_inside : (strings_part object).at + (strings_part object).size ≤ length (elf_file object) = omega arith in
     let symbols_inside : (symbols_part object).at ≤ length (elf_file object) = omega arith in
     let names_are : symbol_names (elf_file object) ≡ string_table (names_in object.symbols) =
-      ap (λ (h : Head). part_of file h) head ∙ part_is file (strings_part object) (string_table (names_in object.symbols)) strings_inside held.strings_are in
+    ap (λ (h : Head). part_of file h) head ∙ part_is file (strings_part object) (string_table (names_in object.symbols)) strings_inside held.strings_are in
     let size : (symbols_part object).size ≡ 24 * length object.symbols =
-      sym (symbols_size object) ∙ length_symbols 0 object.symbols in
+    sym (symbols_size object) ∙ length_symbols 0 object.symbols in
     let low : length (string_table (names_in object.symbols)) < 2 ^ 32 = omega (arith, w.names) in
     read_from file (symbols_part object) symbols names_are (raws_from file (symbols_part object) symbols table size) held.symbols_are symbols_inside low plain

@@ -1,22 +1,21 @@
 -- What the headers of the file of an object say.
-use Rattle.std.proofs.Common.{◌≡◌, ℕ, ◌+◌, ◌*◌, ◌-◌, ◌^◌, ◌<◌, ◌≤◌, Bool, true, false, List, [], ◌∷◌, ◌++◌, length, map, take, drop, refl, ap, sym, ◌∙◌, append_assoc, arith}
+use Rattle.std.proofs.Common.{◌≡◌, ℕ, ◌+◌, ◌^◌, ◌<◌, true, false, List, [], ◌∷◌, ◌++◌, length, map, take, drop, refl, ap, sym, ◌∙◌, append_assoc, arith}
 use Rattle.std.proofs.Math.Seq.{take-length}
 use Rattle.std.proofs.lemmas.List.{append-nil, length-append, length-drop, length-take-le, take-append-drop}
 use Rattle.sh_types.specs.declared.elf.Head.{Head}
 use Rattle.sh_types.specs.declared.elf.Program.{Program}
 use Rattle.sh_types.specs.declared.elf.Segment.{Segment}
-use Rattle.sh_types.specs.Elf.{number_at, head_at, program, places, program_at, program_count, section_at, section_count, magic_of, class_of, order_of, type_of, machine_of, entry_of, names_of, programs_of, heads_of, loads}
+use Rattle.sh_types.specs.Elf.{number_at, head_at, program, places, program_at, program_count, section_at, section_count, programs_of, heads_of, loads}
 use Rattle.rv_asm.specs.declared.object.Object.{Object}
 use Rattle.elf_write.specs.declared.parts.Parts.{Parts}
-use Rattle.elf_write.specs.Fields.{fields}
-use Rattle.elf_write.specs.Held.{Holds, HoldsAll, SaysAll, loadable}
+use Rattle.elf_write.specs.Held.{SaysAll, loadable}
 use Rattle.elf_write.specs.Parts.{text_part, data_part, heads_part, parts_of}
-use Rattle.elf_write.specs.Tables.{header_fields, file_header, program_header, section_header}
+use Rattle.elf_write.specs.Tables.{header_fields, file_header, program_header}
 use Rattle.elf_write.specs.Writable.{IsWritable}
 use Rattle.elf_write.specs.Written.{entry_home, front, sections, section_headers, segment_of, elf_file}
 use Rattle.elf_write.proofs.Bounds.{text_fits, data_fits, heads_low, sections_fit}
 use Rattle.elf_write.proofs.Laying.{begins, file_is, parts_list, holds_all}
-use Rattle.elf_write.proofs.Numbers.{nth, field_is, first_is}
+use Rattle.elf_write.proofs.Numbers.{nth, field_is}
 use Rattle.elf_write.proofs.Reading.{AllFit, FitsSegment, program_read, heads_read}
 use Rattle.elf_write.proofs.Widths.{widths, length_header, length_program}
 

@@ -1,5 +1,5 @@
 -- How many bytes fields and entries of tables have.
-use Rattle.std.proofs.Common.{◌≡◌, ℕ, zero, suc, ◌+◌, ◌*◌, ◌/◌, List, [], ◌∷◌, ◌++◌, length, refl, ap, arith}
+use Rattle.std.proofs.Common.{◌≡◌, ℕ, zero, suc, ◌+◌, ◌*◌, ◌/◌, List, [], ◌∷◌, length, refl, ap, arith}
 use Rattle.std.specs.List.{concat, flat_map}
 use Rattle.std.proofs.lemmas.List.{length-append}
 use Rattle.sh_types.specs.declared.elf.Head.{Head}
@@ -9,7 +9,7 @@ use Rattle.rv_asm.specs.declared.object.Mark.{Mark}
 use Rattle.elf_write.specs.declared.parts.Parts.{Parts}
 use Rattle.elf_write.specs.Fields.{little, fields}
 use Rattle.elf_write.specs.Tables.{file_header, program_header, section_header, record_of, records, symbol_entry, symbol_table}
-use Rattle.elf_write.specs.Written.{code, front, section_headers, segment_of}
+use Rattle.elf_write.specs.Written.{code, front, section_headers}
 
 abbrev pub widths : List (ℕ × ℕ) → ℕ
 widths [] = 0

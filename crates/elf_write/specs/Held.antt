@@ -1,6 +1,6 @@
 -- What the file of an object holds, and where, and what its headers say.
 use Rattle.std.specs.List.{All}
-use Rattle.std.specs.Prelude.{◌≡◌, ℕ, ◌+◌, ◌^◌, ◌<◌, Bool, true, false, List, [], ◌∷◌, length, map, take, drop}
+use Rattle.std.specs.Prelude.{◌≡◌, ℕ, ◌+◌, ◌^◌, ◌<◌, true, false, List, [], ◌∷◌, length, map, take, drop}
 use Rattle.sh_types.specs.declared.elf.Head.{Head}
 use Rattle.sh_types.specs.declared.elf.Program.{Program}
 use Rattle.sh_types.specs.declared.elf.Segment.{Segment}

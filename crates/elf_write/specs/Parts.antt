@@ -1,6 +1,6 @@
 -- Where the parts of the file of an object stand, and their sizes. The code stands at 0x1000 and the data at the next
 -- multiple of 0x1000; their addresses are 0xf000 more. Each part behind them begins at the next multiple of 8.
-use Rattle.std.specs.Prelude.{ℕ, ◌+◌, ◌*◌, ◌==◌, Bool, true, false, not, List, [], ◌∷◌, ◌++◌, length, map, filter, codes}
+use Rattle.std.specs.Prelude.{ℕ, ◌+◌, ◌*◌, Bool, true, false, not, List, [], ◌∷◌, ◌++◌, length, map, filter, codes}
 use Rattle.std.specs.List.{concat, flat_map}
 use Rattle.std.specs.Int.{next_multiple_of}
 use Rattle.sh_types.specs.declared.elf.Symbol.{Symbol}

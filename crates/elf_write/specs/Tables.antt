@@ -1,15 +1,12 @@
 -- The headers and the entries of tables, field by field (System V gABI, "ELF Header", "Program Header", "Section
 -- Header", "Symbol Table", "Relocation"; RISC-V psABI, "File Header").
-use Rattle.std.specs.Prelude.{ℕ, ◌+◌, ◌*◌, ◌%◌, ◌^◌, Bool, List, [], ◌∷◌, ◌++◌, length, if◌then◌else◌}
+use Rattle.std.specs.Prelude.{ℕ, ◌+◌, ◌*◌, ◌%◌, ◌^◌, List, [], ◌∷◌, ◌++◌, length, if◌then◌else◌}
 use Rattle.std.specs.List.{flat_map}
 use Rattle.sh_types.specs.declared.elf.Head.{Head}
 use Rattle.sh_types.specs.declared.elf.Segment.{Segment}
 use Rattle.sh_types.specs.declared.elf.Symbol.{Symbol}
-use Rattle.sh_types.specs.Elf.{no_head}
 use Rattle.rv_asm.specs.declared.object.Mark.{Mark}
-use Rattle.elf_write.specs.declared.parts.Part.{Part}
 use Rattle.elf_write.specs.Fields.{fields}
-use Rattle.elf_write.specs.Parts.{home_of, marks_in}
 
 -- ---- headers
 

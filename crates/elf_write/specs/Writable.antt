@@ -4,7 +4,6 @@ use Rattle.std.specs.List.{All}
 use Rattle.std.specs.List.Sorted.{IsStrictlyIncreasing}
 use Rattle.rv_asm.specs.declared.object.Object.{Object}
 use Rattle.rv_asm.specs.declared.object.Mark.{Mark}
-use Rattle.elf_write.specs.declared.parts.Part.{Part}
 use Rattle.elf_write.specs.Parts.{marks_in, string_table, names_in, text_part, data_part}
 
 -- the mark lies in its part, and names a symbol
