@@ -1,5 +1,5 @@
 -- Symbols that were written are read back, with their names.
-use Rattle.std.proofs.Common.{◌≡◌, ℕ, ◌+◌, ◌*◌, ◌/◌, ◌%◌, ◌^◌, ◌<◌, ◌≤◌, Bool, true, cond, List, [], ◌∷◌, ◌++◌, length, map, take, drop, refl, ap, sym, ◌∙◌, append_assoc, arith}
+use Rattle.std.proofs.Common.{◌≡◌, ℕ, ◌+◌, ◌*◌, ◌/◌, ◌%◌, ◌^◌, ◌<◌, ◌≤◌, Bool, true, cond, List, [], ◌∷◌, ◌++◌, length, get_or, map, take, drop, refl, ap, sym, ◌∙◌, append_assoc, arith}
 use Rattle.std.specs.Prelude.{◌==◌, not, nat_le, take_while, filter, unwrap_or, if◌then◌else◌}
 use Rattle.std.specs.List.{All}
 use Rattle.std.proofs.Math.Nat.{mod-eq_of_lt, mul-div_cancel_left}
@@ -12,13 +12,13 @@ use Rattle.std.proofs.lemmas.List.Sums.{take_while-cons}
 use Rattle.sh_types.specs.declared.elf.Head.{Head}
 use Rattle.sh_types.specs.declared.elf.RawSymbol.{RawSymbol}
 use Rattle.sh_types.specs.declared.elf.Symbol.{Symbol}
-use Rattle.sh_types.specs.Elf.{number_at, raw_symbol, places, symbol, name_at, symbols_of, raws_of, table_of, heads_of, is_symtab, only, no_head, part_of, symbol_names, string_head}
+use Rattle.sh_types.specs.Elf.{number_at, raw_symbol, places, symbol, name_at, symbols_of, raws_of, table_of, heads_of, is_symtab, only, no_head, part_of, names_of, section_names as section_names_of, symbol_names, string_head}
 use Rattle.rv_asm.specs.declared.object.Object.{Object}
 use Rattle.elf_write.specs.declared.parts.Part.{Part}
 use Rattle.elf_write.specs.declared.parts.Parts.{Parts}
 use Rattle.elf_write.specs.Fields.{fields}
 use Rattle.elf_write.specs.Held.{Holds, IsPlain}
-use Rattle.elf_write.specs.Parts.{names_in, string_table, symbols_part, strings_part, heads_part, parts_of}
+use Rattle.elf_write.specs.Parts.{names_in, section_names, string_table, symbols_part, strings_part, names_part, heads_part, parts_of}
 use Rattle.elf_write.specs.Tables.{symbol_fields, symbol_entry, symbol_table}
 use Rattle.elf_write.specs.Writable.{IsWritable}
 use Rattle.elf_write.specs.Written.{entry_home, sections, unloaded, elf_file}
@@ -130,9 +130,9 @@ names_head_is file parts symbols are table =
     ap (λ (hs : List Head). string_head hs (table_of file)) are
     ∙ ap (λ (t : Head). string_head (map (λ (s : ℕ × Head). s.1) (sections parts symbols)) t) table
 
-part_is : (file : List ℕ) (part : Part) (bytes : List ℕ) → part.at + part.size ≤ length file → Holds file part bytes → part_of file (unloaded 43 3 part 0 0 0) ≡ bytes
+part_is : (file : List ℕ) (name kind : ℕ) (part : Part) (bytes : List ℕ) → part.at + part.size ≤ length file → Holds file part bytes → part_of file (unloaded name kind part 0 0 0) ≡ bytes
 unfolding part_of
-part_is file part bytes inside held =
+part_is file name kind part bytes inside held =
     let lies : nat_le (part.at + part.size) (length file) ≡ true = le-leb (part.at + part.size) (length file) inside in
     ap (λ (b : Bool). if b then take part.size (drop part.at file) else []) lies ∙ held
 
@@ -180,8 +180,31 @@ symbols_are object w entry_fits plain =
     let strings_inside : (strings_part object).at + (strings_part object).size ≤ length (elf_file object) = omega arith in
     let symbols_inside : (symbols_part object).at ≤ length (elf_file object) = omega arith in
     let names_are : symbol_names (elf_file object) ≡ string_table (names_in object.symbols) =
-    ap (λ (h : Head). part_of file h) head ∙ part_is file (strings_part object) (string_table (names_in object.symbols)) strings_inside held.strings_are in
+    ap (λ (h : Head). part_of file h) head ∙ part_is file 43 3 (strings_part object) (string_table (names_in object.symbols)) strings_inside held.strings_are in
     let size : (symbols_part object).size ≡ 24 * length object.symbols =
     sym (symbols_size object) ∙ length_symbols 0 object.symbols in
     let low : length (string_table (names_in object.symbols)) < 2 ^ 32 = omega (arith, w.names) in
     read_from file (symbols_part object) symbols names_are (raws_from file (symbols_part object) symbols table size) held.symbols_are symbols_inside low plain
+
+-- ---- the names of the sections
+
+names_of_sections : (parts : Parts) (symbols : ℕ) → map (λ (h : Head). name_at (string_table section_names) h.name) (map (λ (s : ℕ × Head). s.1) (sections parts symbols)) ≡ section_names
+unfolding sections string_table name_at
+names_of_sections parts symbols = refl
+
+pub sections_are_named : (object : Object) → IsWritable object → entry_home object < 2 ^ 64 → map (λ (h : Head). name_at (section_names_of (elf_file object)) h.name) (heads_of (elf_file object)) ≡ section_names
+unfolding parts_of sections
+sections_are_named object w entry_fits =
+    let file = elf_file object in
+    let says = says_all object w entry_fits in
+    let held = holds_all object w in
+    let whole : length (elf_file object) ≡ (heads_part object).at + (heads_part object).size = held.whole in
+    let behind = heads_at object in
+    let inside : (names_part object).at + (names_part object).size ≤ length (elf_file object) = omega arith in
+    let head : get_or (heads_of (elf_file object)) (names_of (elf_file object)) no_head ≡ unloaded 51 3 (names_part object) 0 0 0 =
+    ap (λ (n : ℕ). get_or (heads_of (elf_file object)) n no_head) says.names ∙ ap (λ (hs : List Head). get_or hs 7 no_head) says.heads in
+    let names : section_names_of (elf_file object) ≡ string_table section_names =
+    ap (λ (h : Head). part_of file h) head ∙ part_is file 51 3 (names_part object) (string_table section_names) inside held.names_are in
+    ap (λ (n : List ℕ). map (λ (h : Head). name_at n h.name) (heads_of file)) names
+    ∙ ap (λ (hs : List Head). map (λ (h : Head). name_at (string_table section_names) h.name) hs) says.heads
+    ∙ names_of_sections (parts_of object) (length object.symbols)

@@ -12,7 +12,9 @@ mod strings;
 mod symbols;
 mod write;
 
-pub use laws::{files_hold_their_parts, files_name_their_symbols, files_say_where};
+pub use laws::{
+    files_hold_their_parts, files_name_their_sections, files_name_their_symbols, files_say_where,
+};
 pub use write::write_elf;
 
 #[cfg(test)]
