@@ -58,13 +58,14 @@ const TELLING: [(usize, u32); 24] = [
     (0x2290, 0x3d),
 ];
 
-fn symbol(alloc: Global, name: &[u8], kind: u8, value: u64, size: u64) -> Result<Symbol, AllocError>
+/// A function's symbol.
+fn symbol(alloc: Global, name: &[u8], value: u64, size: u64) -> Result<Symbol, AllocError>
     ensures { IfOk result (λ symbol. symbol.name ≡ name.now) }
 {
     Ok(Symbol {
         name: SymbolName::from_slice(alloc, name)?,
-        kind,
-        section: u16::from(kind) / 2,
+        kind: 2,
+        section: 1,
         value,
         size,
     })
@@ -101,9 +102,16 @@ fn symbols(alloc: Global) -> Result<Items<Symbol>, AllocError>
     ensures names { IfOk result (λ symbols. names_in symbols ≡ [] ∷ codes "start" ∷ codes "three" ∷ []) }
 {
     let mut symbols = Items::new(alloc);
-    symbols.push(symbol(alloc, b"", 0, 0, 0)?)?;
-    symbols.push(symbol(alloc, b"start", 2, 0x10000, 60)?)?;
-    symbols.push(symbol(alloc, b"three", 2, 0x1003c, 8)?)?;
+    let null = Symbol {
+        name: SymbolName::from_slice(alloc, b"")?,
+        kind: 0,
+        section: 0,
+        value: 0,
+        size: 0,
+    };
+    symbols.push(null)?;
+    symbols.push(symbol(alloc, b"start", 0x10000, 60)?)?;
+    symbols.push(symbol(alloc, b"three", 0x1003c, 8)?)?;
     Ok(symbols)
 }
 
