@@ -1,0 +1,10 @@
+pub mod Bounds
+pub mod Hello
+pub mod Laying
+pub mod Little
+pub mod Marks
+pub mod Naming
+pub mod Numbers
+pub mod Reading
+pub mod Saying
+pub mod Widths

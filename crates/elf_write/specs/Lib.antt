@@ -1,0 +1,6 @@
+pub mod Fields
+pub mod Held
+pub mod Parts
+pub mod Tables
+pub mod Writable
+pub mod Written

@@ -1,0 +1,43 @@
+//! Relocation records (System V gABI, "Relocation").
+ghost use Rattle.std.specs.Prelude.{◌≡◌, ◌++◌, ◌+◌, ◌^◌, ◌<◌, length, OnOk};
+ghost use Rattle.std.specs.List.{All};
+ghost use Rattle.rv_asm.specs.declared.object.Mark.{Mark};
+ghost use Rattle.elf_write.specs.Parts.{marks_in};
+ghost use Rattle.elf_write.specs.Tables.{record_of, records};
+
+use crate::fields::Field::Xword;
+use crate::fields::put;
+use rv_asm::Mark;
+use std::alloc::AllocError;
+
+/// The value of r_addend.
+const ADDEND: u64 = 0;
+
+/// Appends the record of a mark in the part at an address.
+#[tactic(auto, unfolding(crate::specs::Tables::record_of))]
+fn put_record(file: &mut Vec<u8>, home: u64, mark: &Mark) -> Result<(), AllocError>
+    requires { home + mark.now.at < 2 ^ 64 }
+    ensures { OnOk result (file.new.items ≡ file.old.items ++ record_of home mark.now) }
+{
+    let info = u64::from(mark.symbol) << 32 | u64::from(mark.kind);
+    put(file, &[Xword(home + mark.at), Xword(info), Xword(ADDEND)])
+}
+
+/// Appends the records of those marks that are in the code, or of those in the data, which is at an address.
+#[tactic(auto, unfolding(crate::specs::Parts::marks_in, crate::specs::Tables::records))]
+pub fn put_records(
+    file: &mut Vec<u8>,
+    home: u64,
+    in_text: bool,
+    marks: &[Mark],
+) -> Result<(), AllocError>
+    requires { All (λ (m : Mark). home + m.at < 2 ^ 64) marks.now }
+    ensures { OnOk result (file.new.items ≡ file.old.items ++ records home (marks_in in_text marks.now)) }
+{
+    for mark in marks {
+        if mark.in_text == in_text {
+            put_record(file, home, mark)?;
+        }
+    }
+    Ok(())
+}
