@@ -1,7 +1,9 @@
 pub mod Appending
+pub mod Counting
 pub mod Ending
 pub mod Knowing
 pub mod Laying
+pub mod Marking
 pub mod Naming
 pub mod Narrow
 pub mod Placing

@@ -2,12 +2,16 @@ pub mod Checking
 pub mod Data
 pub mod Functions
 pub mod Maps
+pub mod Marks
 pub mod Names
+pub mod Numbers
+pub mod Object
 pub mod Passes
 pub mod Places
 pub mod Ranges
 pub mod Seen
 pub mod Sets
+pub mod Symbols
 pub mod Targets
 pub mod Words
 pub mod Writing
