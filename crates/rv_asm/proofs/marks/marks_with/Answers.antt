@@ -20,10 +20,10 @@ loop-item-preserved c =
     let item = c.item-item.result in
     let n = c.next_place-place.ensures in
     let inv = c.loop-item.invariant in
-    let inner : c.loop-item.inner + c.inner_in.result ≡ c.loop-item.inner + inner_in place item.statement = ap (λ (k : ℕ). c.loop-item.inner + k) c.inner_in.ensures.value in
+    let inner : c.loop-item.inner + c.inner_in-inner.result ≡ c.loop-item.inner + inner_in place item.statement = ap (λ (k : ℕ). c.loop-item.inner + k) c.inner_in-inner.ensures.value in
     record {
       range = stays_fine place next items i item c.loop-item-test.true c.item-item.is n inv.range;
-      made = goes_on give inner_in c.loop-item.marks.items c.push_marks.new.marks.items c.loop-item.inner (c.loop-item.inner + c.inner_in.result) place next items i item (counted give inner_in 0 first_place items) c.loop-item-test.true c.item-item.is n
+      made = goes_on give inner_in c.loop-item.marks.items c.push_marks.new.marks.items c.loop-item.inner (c.loop-item.inner + c.inner_in-inner.result) place next items i item (counted give inner_in 0 first_place items) c.loop-item-test.true c.item-item.is n
           inner c.in_ok-push_marks.ensures inv.made;
       short = subst (λ (q : Place). is_past q ≡ false) (sym n) (not_past place items i item c.loop-item-test.true c.item-item.is inv.range);
       few = few_functions place next item.statement i n inv.few;

@@ -18,10 +18,10 @@ loop-item-preserved c =
     let n = c.next_place-place.ensures in
     let inv = c.loop-item.invariant in
     let count = las_in place item.statement in
-    let las : c.loop-item.las + c.las_in.result ≡ c.loop-item.las + count = ap (λ (k : ℕ). c.loop-item.las + k) c.las_in.ensures.value in
+    let las : c.loop-item.las + c.las_in-las.result ≡ c.loop-item.las + count = ap (λ (k : ℕ). c.loop-item.las + k) c.las_in-las.ensures.value in
     record {
       range = stays_fine place next items i item c.loop-item-test.true c.item-item.is n inv.range;
-      made = goes_on inner_symbol las_in c.loop-item.symbols.items c.push_inner_symbol.new.symbols.items c.loop-item.las (c.loop-item.las + c.las_in.result) place next items i item (c.args.symbols.now.items ++ counted inner_symbol las_in 0 first_place items) c.loop-item-test.true c.item-item.is n
+      made = goes_on inner_symbol las_in c.loop-item.symbols.items c.push_inner_symbol.new.symbols.items c.loop-item.las (c.loop-item.las + c.las_in-las.result) place next items i item (c.args.symbols.now.items ++ counted inner_symbol las_in 0 first_place items) c.loop-item-test.true c.item-item.is n
           las c.in_ok-push_inner_symbol.ensures inv.made;
       short = subst (λ (q : Place). is_past q ≡ false) (sym n) (not_past place items i item c.loop-item-test.true c.item-item.is inv.range);
       few = few_functions place next item.statement i n inv.few;
