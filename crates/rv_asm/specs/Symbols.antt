@@ -61,9 +61,12 @@ named_symbols items = outer_symbols items ++ inner_symbols items
 abbrev pub null_symbol : Symbol
 null_symbol = symbol [] 0 0 0 0
 
+abbrev pub symbol_of : Scoped → Symbol
+symbol_of s = s.symbol
+
 -- the symbols in the order of the file
 abbrev pub symbols_of : List Item → List Symbol
-symbols_of items = null_symbol ∷ map (λ (s : Scoped). s.symbol) (named_symbols items)
+symbols_of items = null_symbol ∷ map symbol_of (named_symbols items)
 
 -- ---- their numbers
 

@@ -1,6 +1,7 @@
 //! The assembler: a source becomes functions, words, data, symbols and the marks of what refers to what.
 #![tactic(auto)]
 
+mod assembling;
 mod checking;
 mod data;
 mod distances;
@@ -17,6 +18,7 @@ mod targets;
 mod words;
 mod writing;
 
+pub use assembling::assemble;
 pub use checking::{checked, entry_name, last_line};
 pub use data::{data_of, text_of};
 pub use distances::first_far;
