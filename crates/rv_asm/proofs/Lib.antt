@@ -1,7 +1,7 @@
+pub mod Answering
 pub mod Appending
 pub mod Counting
 pub mod Ending
-pub mod Faultless
 pub mod Knowing
 pub mod Laying
 pub mod Marking

@@ -189,7 +189,7 @@ fn object_from(alloc: Global, items: &[Item]) -> Result<Object, NoMemory>
 }
 
 /// The object of a source; else its first fault, or want of memory.
-#[tactic(auto, using(crate::proofs::Faultless::fine, crate::proofs::Faultless::refused, crate::proofs::Faultless::whole))]
+#[tactic(auto, using(crate::proofs::Answering::fine, crate::proofs::Answering::refused, crate::proofs::Answering::whole))]
 pub fn assemble(alloc: Global, text: &[u8]) -> Result<Object, AsmFault>
     requires { length text.now ≤ 67108864 }
     ensures { Assembles result (fault_of text.now) (object_of text.now) }
