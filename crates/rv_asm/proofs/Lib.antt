@@ -1,5 +1,6 @@
 pub mod Appending
 pub mod Ending
+pub mod Faultless
 pub mod Knowing
 pub mod Laying
 pub mod Naming
