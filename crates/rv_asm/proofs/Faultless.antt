@@ -13,6 +13,7 @@ use Rattle.rv_asm.specs.Passes.{lower_line, earlier, else_fault, at_line, first_
 use Rattle.rv_asm.specs.Places.{misplaced_line, is_open, first_place}
 use Rattle.rv_asm.specs.Ranges.{range_line}
 use Rattle.rv_asm.specs.Targets.{first_far}
+use Rattle.rv_asm.proofs.Forming.{source_good}
 
 no_fault : (a b : Option LineFault) → else_fault a b ≡ None → (a ≡ None) × (b ≡ None)
 no_fault None b e = (refl, e)
@@ -73,6 +74,7 @@ passed text e =
     let second = none_earlier (at_line Name (first_unknown items)) (at_line Range (range_line first_place items)) two.0 in
     let end = ended (is_open false items) (is_function_name (functions_in items) (entry_of items)) (fault (last_line text) Open) (fault (last_line text) Entry) three.1 in
     record {
+      formed = source_good text;
       placed = first.0;
       entry_once = first.1;
       names_once = first.2;

@@ -1,10 +1,14 @@
 pub mod Appending
 pub mod Ending
 pub mod Faultless
+pub mod Fitting
+pub mod Forming
 pub mod Knowing
 pub mod Laying
 pub mod Naming
 pub mod Narrow
 pub mod Placing
 pub mod Ranging
+pub mod Reaching
+pub mod Spelling
 pub mod Targeting
