@@ -2,6 +2,9 @@ pub mod Answering
 pub mod Appending
 pub mod Counting
 pub mod Ending
+pub mod Faultless
+pub mod Fitting
+pub mod Forming
 pub mod Knowing
 pub mod Laying
 pub mod Marking
@@ -9,4 +12,6 @@ pub mod Naming
 pub mod Narrow
 pub mod Placing
 pub mod Ranging
+pub mod Reaching
+pub mod Spelling
 pub mod Targeting

@@ -5,7 +5,6 @@ use Rattle.asm_text.specs.declared.statements.Statement.{Statement}
 use Rattle.asm_text.specs.declared.statements.Statement.TheVariants as statement
 use Rattle.asm_text.specs.declared.statements.Item.{Item}
 use Rattle.rv_asm.specs.declared.places.Place.{Place}
-use Rattle.rv_asm.specs.declared.object.Mark.{Mark}
 use Rattle.rv_asm.specs.Symbols.{counted}
 use Rattle.rv_asm.specs.Marks.{mark, number_or, label_or, reference_kind, marks_at, inner_in}
 use Rattle.rv_asm.proofs.Counting.{counted_same}

@@ -1,5 +1,7 @@
 pub mod Checking
 pub mod Data
+pub mod Fitting
+pub mod Formed
 pub mod Functions
 pub mod Maps
 pub mod Marks

@@ -1,5 +1,5 @@
 -- The marks of what refers to what (RISC-V psABI, "Relocations").
-use Rattle.std.specs.Prelude.{ℕ, ◌+◌, ◌==◌, Bool, true, false, Option, Some, None, List, [], ◌∷◌, ◌++◌, length, if◌then◌else◌}
+use Rattle.std.specs.Prelude.{ℕ, ◌+◌, ◌==◌, Bool, true, false, Option, Some, None, List, [], ◌∷◌, length, if◌then◌else◌}
 use Rattle.asm_text.specs.declared.statements.Statement.{Statement}
 use Rattle.asm_text.specs.declared.statements.Statement.TheVariants as statement
 use Rattle.asm_text.specs.declared.statements.Item.{Item}

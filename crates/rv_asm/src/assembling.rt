@@ -1,5 +1,6 @@
 //! Sources become objects.
 ghost use Rattle.std.specs.Prelude.{◌≡◌, ◌≤◌, ◌<◌, ◌+◌, ◌^◌, ◌++◌, ◌∷◌, [], take, drop, None, map, length, IfOk, OnOk};
+ghost use Rattle.rv_asm.specs.Checking.{IsChecked};
 ghost use Rattle.rv_asm.specs.Data.{text_of as text_of_of};
 ghost use Rattle.rv_asm.specs.Functions.{functions_of as functions_of_of};
 ghost use Rattle.rv_asm.specs.Object.{words_in as words_in_of, function_number as function_number_of, entry_number as entry_number_of, object_from as object_from_of, object_of, Assembles};
@@ -151,9 +152,10 @@ fn outer(alloc: Global, functions: &[Function], items: &[Item]) -> Result<Vec<Sc
     Ok(symbols)
 }
 
+/// The words of the text. There is no other error than want of memory.
 fn text_words(alloc: Global, items: &[Item]) -> Result<Vec<u32>, NoMemory>
     requires few { length items.now < 2 ^ 63 }
-    requires range { range_line first_place items.now ≡ None }
+    requires checked { IsChecked items.now }
     ensures { IfOk result (λ v. v.items ≡ text_of_of items.now) }
 {
     match text_of(alloc, items) {
@@ -162,11 +164,11 @@ fn text_words(alloc: Global, items: &[Item]) -> Result<Vec<u32>, NoMemory>
     }
 }
 
-/// The object of statements, of which each is in range.
+/// The object of the statements of a source that has no fault.
 #[tactic(auto, unfolding(crate::specs::Object::object_from))]
 fn object_from(alloc: Global, items: &[Item]) -> Result<Object, NoMemory>
     requires few { length items.now < 2 ^ 63 }
-    requires range { range_line first_place items.now ≡ None }
+    requires checked { IsChecked items.now }
     ensures { IfOk result (λ o. o ≡ object_from_of items.now) }
 {
     let functions = functions_of(alloc, items)?;
@@ -189,7 +191,7 @@ fn object_from(alloc: Global, items: &[Item]) -> Result<Object, NoMemory>
 }
 
 /// The object of a source; else its first fault, or want of memory.
-#[tactic(auto, using(crate::proofs::Answering::fine, crate::proofs::Answering::refused, crate::proofs::Answering::whole))]
+#[tactic(auto, using(crate::proofs::Answering::refused, crate::proofs::Answering::whole))]
 pub fn assemble(alloc: Global, text: &[u8]) -> Result<Object, AsmFault>
     requires { length text.now ≤ 67108864 }
     ensures { Assembles result (fault_of text.now) (object_of text.now) }

@@ -1,4 +1,4 @@
-use Rattle.std.proofs.Common.{◌≡◌, ◌+◌, ◌≤◌, drop}
+use Rattle.std.proofs.Common.{◌≡◌, ◌+◌, drop}
 use Rattle.rv_asm.specs.Object.{function_number}
 use Rattle.rv_asm.proofs.assembling.function_number.Given as goal
 

@@ -1,4 +1,4 @@
-use Rattle.std.proofs.Common.{◌≡◌, ◌+◌, arith}
+use Rattle.std.proofs.Common.{arith}
 use Rattle.rv_asm.proofs.Counting.{numbers_go_on, numbers_done}
 use Rattle.rv_asm.proofs.symbols.all_numbers.Goals as goal
 
