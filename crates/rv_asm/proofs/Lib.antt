@@ -10,6 +10,7 @@ pub mod Laying
 pub mod Marking
 pub mod Naming
 pub mod Narrow
+pub mod Numbering
 pub mod Placing
 pub mod Ranging
 pub mod Reaching

@@ -16,9 +16,13 @@ use std::alloc::Global;
 use std::collections::BTreeMap;
 
 const BRANCH: u32 = 16;
+
 const JAL: u32 = 17;
+
 const CALL_PLT: u32 = 19;
+
 const PCREL_HI20: u32 = 23;
+
 const PCREL_LO12_I: u32 = 24;
 
 fn number_or(number: Option<usize>) -> usize
@@ -74,12 +78,7 @@ fn push_mark(
     Ok(())
 }
 
-fn push_address(
-    marks: &mut Vec<Mark>,
-    at: u64,
-    number: usize,
-    label: usize,
-) -> Result<(), NoMemory>
+fn push_address(marks: &mut Vec<Mark>, at: u64, number: usize, label: usize) -> Result<(), NoMemory>
     requires { at ≤ 67108864 }
     ensures { OnOk result (marks.new.items ≡ marks.old.items ++ mark true at 23 number ∷ mark true (at + 4) 24 label ∷ []) }
 {
@@ -87,11 +86,7 @@ fn push_address(
     push_mark(marks, true, at + 4, PCREL_LO12_I, label)
 }
 
-fn named<'a>(
-    numbers: &BTreeMap<(usize, &'a [u8]), usize>,
-    scope: usize,
-    name: &'a [u8],
-) -> usize
+fn named<'a>(numbers: &BTreeMap<(usize, &'a [u8]), usize>, scope: usize, name: &'a [u8]) -> usize
     ensures { result ≡ number_or_of (number_of numbers.now scope name.now) }
 {
     number_or(find_number(numbers, scope, name))
@@ -122,10 +117,22 @@ fn push_marks<'a>(
             push_mark(marks, true, at, JAL, number)
         }
         Statement::Call { name } => {
-            push_mark(marks, true, at, CALL_PLT, named(numbers, 0, name.as_slice()))
+            push_mark(
+                marks,
+                true,
+                at,
+                CALL_PLT,
+                named(numbers, 0, name.as_slice()),
+            )
         }
         Statement::Tail { name } => {
-            push_mark(marks, true, at, CALL_PLT, named(numbers, 0, name.as_slice()))
+            push_mark(
+                marks,
+                true,
+                at,
+                CALL_PLT,
+                named(numbers, 0, name.as_slice()),
+            )
         }
         Statement::Address { name, .. } => {
             let number = named(numbers, 0, name.as_slice());

@@ -44,10 +44,7 @@ fn push_function(symbols: &mut Vec<Scoped>, function: &Function) -> Result<(), A
 }
 
 /// Adds the symbols of functions.
-pub fn push_functions(
-    symbols: &mut Vec<Scoped>,
-    functions: &[Function],
-) -> Result<(), AllocError>
+pub fn push_functions(symbols: &mut Vec<Scoped>, functions: &[Function]) -> Result<(), AllocError>
     ensures { OnOk result (symbols.new.items ≡ symbols.old.items ++ map function_symbol functions.now) }
 {
     for function in functions {
