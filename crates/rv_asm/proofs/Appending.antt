@@ -1,12 +1,13 @@
 -- Words of instructions that are added one behind the other.
-use Rattle.std.proofs.Common.{◌≡◌, ℕ, List, [], ◌∷◌, ◌++◌, sym, ap, subst, ◌∙◌, append_assoc}
-use Rattle.std.specs.Prelude.{ℤ, Result, Ok, Err, map}
+use Rattle.std.proofs.Common.{◌≡◌, ℕ, List, [], ◌∷◌, ◌++◌, refl, sym, ap, subst, ◌∙◌, append_assoc}
+use Rattle.std.specs.Prelude.{ℤ, Result, Ok, Err, IsOkUnless, map}
 use Rattle.asm_text.specs.declared.statements.Statement.{Statement}
 use Rattle.std.proofs.lemmas.List.{append-nil}
 use Rattle.sh_types.specs.declared.instructions.Instr.{Instr}
-use Rattle.sh_types.specs.Instruction.{word_of}
+use Rattle.sh_types.specs.Instruction.{word_of, IsSigned}
 use Rattle.rv_asm.specs.declared.writing.Unwritten.{Unwritten}
 use Rattle.rv_asm.specs.declared.writing.Unwritten.TheVariants.{NoMemory, Range}
+use Rattle.rv_asm.specs.Fitting.{Fits}
 use Rattle.rv_asm.specs.Words.{AreInstrs, instrs_of, plain_words}
 use Rattle.rv_asm.specs.Writing.{Writes, WritesWords}
 
@@ -34,3 +35,12 @@ behind_plain old mid new (Ok _) distance s instrs m e w = (
 )
 behind_plain old mid new (Err NoMemory) distance s instrs m e w = tt
 behind_plain old mid new (Err Range) distance s instrs m e w = λ h. w (subst (λ (is : List Instr). AreInstrs is) (sym e) h)
+
+-- instructions that are all in their ranges are written, unless memory is refused
+pub only_memory : {U : Type 0} (old new : List ℕ) (r : Result U Unwritten) (distance same : ℤ) (s : Statement) → distance ≡ same → WritesWords old new r distance s → Fits same s → IsOkUnless r NoMemory
+only_memory old new (Ok _) distance same s e w fits = tt
+only_memory old new (Err NoMemory) distance same s e w fits = refl
+only_memory old new (Err Range) distance same s e w fits = absurd (w (subst (λ (d : ℤ). AreInstrs (instrs_of d s)) (sym e) fits.instrs))
+
+pub is_signed : (distance same : ℤ) (s : Statement) → distance ≡ same → Fits same s → IsSigned 31 distance
+is_signed distance same s e fits = subst (IsSigned 31) (sym e) fits.signed

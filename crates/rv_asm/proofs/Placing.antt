@@ -13,7 +13,7 @@ parts true true line rest e = (cc, cc, cc)
 parts true false line rest e = (refl, refl, e)
 parts false p line rest e = (cc, cc, cc)
 
-all_fine : (place : Place) (item : Item) (items : List Item) → range_line place (item ∷ items) ≡ None
+pub all_fine : (place : Place) (item : Item) (items : List Item) → range_line place (item ∷ items) ≡ None
     → (is_in_range item.statement ≡ true) × (is_past (place_after place item.statement) ≡ false) × (range_line (place_after place item.statement) items ≡ None)
 unfolding range_line
 all_fine place item items e = parts (is_in_range item.statement) (is_past (place_after place item.statement)) item.line (range_line (place_after place item.statement) items) e

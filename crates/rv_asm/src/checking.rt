@@ -1,7 +1,7 @@
 //! The first fault of a source.
 ghost use Rattle.std.specs.Prelude.{◌≡◌, ◌≤◌, ◌==◌, option_map, length, count_by, IfOk};
 ghost use Rattle.asm_text.specs.Source.{source_of};
-ghost use Rattle.rv_asm.specs.Checking.{Checks, refused_of};
+ghost use Rattle.rv_asm.specs.Checking.{Checks, IsChecked, refused_of};
 ghost use Rattle.rv_asm.specs.Names.{functions_in};
 ghost use Rattle.rv_asm.specs.Passes.{entry_of, is_function_name, final_pass as final_pass_of, last_line as last_line_of, fault_of};
 
@@ -88,7 +88,8 @@ pub fn last_line(text: &[u8]) -> u32
 #[tactic(auto, unfolding(crate::specs::Passes::fault_of))]
 pub fn checked(alloc: Global, text: &[u8]) -> Result<Items<Item>, AsmFault>
     requires { length text.now ≤ 67108864 }
-    ensures { Checks result (fault_of text.now) (source_of text.now).items }
+    ensures first { Checks result (fault_of text.now) (source_of text.now).items }
+    ensures checked { IfOk result (λ items. IsChecked items) }
 {
     let source = read(alloc, text)?;
     if let Some(fault) = first_pass(alloc, &source)? {

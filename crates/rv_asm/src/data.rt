@@ -1,10 +1,14 @@
 //! The bytes of the data and the words of the text.
-ghost use Rattle.std.specs.Prelude.{◌≡◌, ◌≤◌, ◌<◌, ◌^◌, ◌++◌, true, false, None, replicate, length, IfOk, OnOk};
+ghost use Rattle.std.specs.Prelude.{◌≡◌, ◌≤◌, ◌<◌, ◌^◌, ◌++◌, true, false, None, replicate, length, IfOk, OnOk, IsOkUnless};
 ghost use Rattle.sh_types.specs.Instruction.{low_bits};
+ghost use Rattle.rv_asm.specs.declared.writing.Unwritten.TheVariants as unwritten;
+ghost use Rattle.rv_asm.specs.Checking.{IsChecked};
 ghost use Rattle.rv_asm.specs.Data.{laid, low_bytes, address_or as address_or_of, data_bytes, text_words, data_of as data_of_of, text_of as text_of_of};
+ghost use Rattle.rv_asm.specs.Fitting.{Fits, AllFit};
 ghost use Rattle.rv_asm.specs.Maps.{has_at};
 ghost use Rattle.rv_asm.specs.Places.{first_place};
 ghost use Rattle.rv_asm.specs.Ranges.{is_from, is_in_range, is_past, range_line};
+ghost use Rattle.rv_asm.specs.Targets.{distance_to, target_of as target_of_of};
 
 use crate::distances::{address, distance, find, target_of};
 use crate::places::{Place, alignment, natural, padding};
@@ -98,7 +102,21 @@ fn data_with<'a>(
     Ok(bytes)
 }
 
-#[tactic(auto, unfolding(crate::specs::Data::text_words))]
+fn named_distance<'a>(
+    targets: &BTreeMap<(usize, &'a [u8]), Target>,
+    size: u64,
+    place: Place,
+    statement: &'a Statement,
+) -> i64
+    requires size { size ≤ 67108864 }
+    requires short { is_past place ≡ false }
+    ensures { result ≡ distance_to size place (target_of_of (has_at targets.now) place.functions statement.now) }
+{
+    let target = target_of(targets, place.functions, statement);
+    distance(size, place, target)
+}
+
+#[tactic(auto, using(crate::proofs::Appending::only_memory, crate::proofs::Appending::is_signed), unfolding(crate::specs::Data::text_words))]
 fn push_text<'a>(
     words: &mut Vec<u32>,
     targets: &BTreeMap<(usize, &'a [u8]), Target>,
@@ -109,17 +127,15 @@ fn push_text<'a>(
     requires size { size ≤ 67108864 }
     requires short { is_past place ≡ false }
     requires range { is_in_range statement.now ≡ true }
-    ensures { OnOk result (words.new.items ≡ words.old.items ++ text_words (has_at targets.now) size place statement.now) }
+    requires fits { Fits (distance_to size place (target_of_of (has_at targets.now) place.functions statement.now)) statement.now }
+    ensures words { OnOk result (words.new.items ≡ words.old.items ++ text_words (has_at targets.now) size place statement.now) }
+    ensures memory { IsOkUnless result unwritten.NoMemory }
 {
-    let target = target_of(targets, place.functions, statement);
-    let distance = distance(size, place, target);
-    if distance < -0x8000_0000 || distance >= 0x8000_0000 {
-        return Err(Unwritten::Range);
-    }
+    let distance = named_distance(targets, size, place, statement);
     push_words(words, statement, distance)
 }
 
-#[tactic(auto, using(crate::proofs::Placing::is_fine, crate::proofs::Placing::not_past))]
+#[tactic(auto, using(crate::proofs::Placing::is_fine, crate::proofs::Placing::not_past, crate::proofs::Reaching::fits_here))]
 fn text_with<'a>(
     alloc: Global,
     targets: &BTreeMap<(usize, &'a [u8]), Target>,
@@ -129,7 +145,9 @@ fn text_with<'a>(
     requires size { size ≤ 67108864 }
     requires few { length items.now < 2 ^ 63 }
     requires range { range_line first_place items.now ≡ None }
-    ensures { IfOk result (λ v. v.items ≡ laid (text_words (has_at targets.now) size) first_place items.now) }
+    requires fit { AllFit (has_at targets.now) size first_place items.now }
+    ensures words { IfOk result (λ v. v.items ≡ laid (text_words (has_at targets.now) size) first_place items.now) }
+    ensures memory { IsOkUnless result unwritten.NoMemory }
 {
     let mut words = Vec::new(alloc);
     let mut place = start();
@@ -151,12 +169,13 @@ pub fn data_of(alloc: Global, items: &[Item]) -> Result<Vec<u8>, AllocError>
     data_with(alloc, &targets, last_place(items).text, items)
 }
 
-/// The words of the text, where each statement is in range.
+/// The words of the text of a source that has no fault. Of errors there is NoMemory alone.
 #[tactic(auto, using(crate::proofs::Laying::text_same))]
 pub fn text_of(alloc: Global, items: &[Item]) -> Result<Vec<u32>, Unwritten>
     requires few { length items.now < 2 ^ 63 }
-    requires range { range_line first_place items.now ≡ None }
-    ensures { IfOk result (λ v. v.items ≡ text_of_of items.now) }
+    requires checked { IsChecked items.now }
+    ensures words { IfOk result (λ v. v.items ≡ text_of_of items.now) }
+    ensures memory { IsOkUnless result unwritten.NoMemory }
 {
     let targets = all_targets(alloc, items)?;
     text_with(alloc, &targets, last_place(items).text, items)

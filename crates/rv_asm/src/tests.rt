@@ -1,5 +1,5 @@
 //! Which line of a source is refused, and the words of the first guest, which are from an independent program.
-use crate::{checked, data_of, range_line, text_of};
+use crate::{checked, data_of, text_of};
 use asm_text::{AsmFault, AsmRule};
 use std::alloc::Global;
 
@@ -62,7 +62,6 @@ const HELLO: &str =
 #[test]
 fn writes_the_first_guest(rt: HostRuntime) {
     let items = checked(rt.alloc(), HELLO.as_bytes()).expect(&rt, "items");
-    assert!(rt; range_line(items.as_slice()).is_none());
     let words = text_of(rt.alloc(), items.as_slice()).expect(&rt, "words");
     let wanted = [
         0xff01_0113,

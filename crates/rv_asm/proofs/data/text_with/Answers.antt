@@ -7,6 +7,7 @@ use Rattle.rv_asm.specs.Data.{laid, text_words}
 use Rattle.rv_asm.proofs.Placing.{stays_fine, not_past}
 use Rattle.rv_asm.proofs.Ranging.{few_functions}
 use Rattle.rv_asm.proofs.Laying.{goes_on, done}
+use Rattle.rv_asm.proofs.Reaching.{stays_fit}
 use Rattle.rv_asm.proofs.data.text_with.Goals as goal
 
 pub loop-item-preserved : goal.loop-item-preserved
@@ -21,12 +22,13 @@ loop-item-preserved c =
     let inv = c.loop-item.invariant in
     record {
       range = stays_fine place next items i item c.loop-item-test.true c.item-item.is n inv.range;
-      laid = goes_on give c.loop-item.words.items c.push_text.new.words.items place next items i item (laid give first_place items) c.loop-item-test.true c.item-item.is n c.in_ok-push_text.ensures inv.laid;
+      laid = goes_on give c.loop-item.words.items c.push_text.new.words.items place next items i item (laid give first_place items) c.loop-item-test.true c.item-item.is n c.in_ok-push_text.ensures.words inv.laid;
       short = subst (λ (q : Place). is_past q ≡ false) (sym n) (not_past place items i item c.loop-item-test.true c.item-item.is inv.range);
+      fit = stays_fit (has_at c.args.targets.now) c.args.size place next items i item c.loop-item-test.true c.item-item.is n inv.fit;
       few = few_functions place next item.statement i n inv.few;
     }
 
-pub returns : goal.returns
-returns c =
+pub returns-clause-words : goal.returns-clause-words
+returns-clause-words c =
     let give = text_words (has_at c.args.targets.now) c.args.size in
     done give c.loop-item.words.items c.loop-item.place c.args.items.now c.loop-item.item-index (laid give first_place c.args.items.now) c.loop-item-test.false c.loop-item.invariant.laid

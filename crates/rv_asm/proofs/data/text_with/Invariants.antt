@@ -3,8 +3,9 @@ use Rattle.std.specs.Prelude.{None}
 use Rattle.rv_asm.specs.Places.{first_place}
 use Rattle.rv_asm.specs.Ranges.{is_past, range_line}
 use Rattle.rv_asm.specs.Maps.{has_at}
+use Rattle.rv_asm.specs.Fitting.{AllFit}
 use Rattle.rv_asm.specs.Data.{laid, text_words}
 use Rattle.rv_asm.proofs.data.text_with.Given as goal
 
 abbrev pub invariant-loop-item : goal.invariant-loop-item
-invariant-loop-item l = record { range : range_line l.place (drop l.item-index l.items) ≡ None; laid : l.words.items ++ laid (text_words (has_at l.targets) l.size) l.place (drop l.item-index l.items) ≡ laid (text_words (has_at l.targets) l.size) first_place l.items; short : is_past l.place ≡ false; few : l.place.functions ≤ l.item-index }
+invariant-loop-item l = record { range : range_line l.place (drop l.item-index l.items) ≡ None; laid : l.words.items ++ laid (text_words (has_at l.targets) l.size) l.place (drop l.item-index l.items) ≡ laid (text_words (has_at l.targets) l.size) first_place l.items; short : is_past l.place ≡ false; few : l.place.functions ≤ l.item-index; fit : AllFit (has_at l.targets) l.size l.place (drop l.item-index l.items) }

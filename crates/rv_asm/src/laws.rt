@@ -1,0 +1,27 @@
+//! Laws of the words and of the marks, as clauses of functions that do nothing.
+ghost use Rattle.std.specs.Prelude.{◌≡◌, ◌<◌, List, Some, length};
+ghost use Rattle.std.specs.List.{All};
+ghost use Rattle.sh_types.specs.declared.instructions.Instr.{Instr};
+ghost use Rattle.sh_types.specs.Instruction.{IsInstr, word_of};
+ghost use Rattle.sh_types.specs.Decoding.{decoded};
+ghost use Rattle.asm_text.specs.declared.statements.Item.{Item};
+ghost use Rattle.rv_asm.specs.Checking.{IsChecked};
+ghost use Rattle.rv_asm.specs.Data.{target_in, text_end};
+ghost use Rattle.rv_asm.specs.Fitting.{AllDecode};
+ghost use Rattle.rv_asm.specs.Marks.{marks_of};
+ghost use Rattle.rv_asm.specs.Places.{first_place};
+ghost use Rattle.rv_asm.specs.Symbols.{symbols_of};
+
+/// The word of an instruction of the table decodes to it; so does the word of each instruction of a source that has no
+/// fault.
+#[tactic(auto, using(crate::proofs::Spelling::word_decodes, crate::proofs::Spelling::checked_decode))]
+pub fn words_decode()
+    ensures word { (i : Instr) → IsInstr i → decoded (word_of i) ≡ Some i }
+    ensures source { (items : List Item) → IsChecked items → AllDecode (target_in items) (text_end items) first_place items }
+{}
+
+/// The number of each mark is that of a symbol.
+#[tactic(auto, using(crate::proofs::Numbering::marks_named))]
+pub fn marks_name_symbols()
+    ensures { (items : List Item) → All (λ m. m.symbol < length (symbols_of items)) (marks_of items) }
+{}
