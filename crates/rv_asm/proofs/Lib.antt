@@ -8,6 +8,7 @@ pub mod Forming
 pub mod Knowing
 pub mod Laying
 pub mod Marking
+pub mod NameSizes
 pub mod Naming
 pub mod Narrow
 pub mod Numbering
