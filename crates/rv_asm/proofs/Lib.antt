@@ -5,6 +5,7 @@ pub mod Ending
 pub mod Faultless
 pub mod Fitting
 pub mod Forming
+pub mod Joining
 pub mod Knowing
 pub mod Laying
 pub mod Marking
