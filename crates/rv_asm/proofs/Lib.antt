@@ -8,6 +8,7 @@ pub mod Forming
 pub mod Knowing
 pub mod Laying
 pub mod Marking
+pub mod MarksLie
 pub mod Naming
 pub mod Narrow
 pub mod Numbering
