@@ -9,6 +9,7 @@ pub mod Joining
 pub mod Knowing
 pub mod Laying
 pub mod Marking
+pub mod MarksLie
 pub mod NameSizes
 pub mod Naming
 pub mod Narrow
