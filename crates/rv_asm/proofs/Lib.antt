@@ -3,11 +3,13 @@ pub mod Appending
 pub mod Counting
 pub mod Ending
 pub mod Faultless
+pub mod Finding
 pub mod Fitting
 pub mod Forming
 pub mod Knowing
 pub mod Laying
 pub mod Marking
+pub mod MarksName
 pub mod Naming
 pub mod Narrow
 pub mod Numbering
