@@ -9,6 +9,10 @@ pub use plain::{Ran, run_plain};
 pub use thin::read_thin;
 
 #[cfg(test)]
+mod assembly;
+#[cfg(test)]
+mod calls;
+#[cfg(test)]
 mod elf;
 #[cfg(test)]
 mod first;

@@ -6,10 +6,12 @@ pub mod Faultless
 pub mod Finding
 pub mod Fitting
 pub mod Forming
+pub mod Joining
 pub mod Knowing
 pub mod Laying
 pub mod Marking
 pub mod MarksName
+pub mod NameSizes
 pub mod Naming
 pub mod Narrow
 pub mod Numbering
