@@ -37,7 +37,7 @@ if_length : (t : Bool) (s : Scoped) → length (if t then s ∷ [] else []) ≡ 
 if_length true s = refl
 if_length false s = refl
 
-inner_length : (las : ℕ) (p : Place) (s : Statement) → length (inner_symbol las p s) ≡ inner_in p s
+pub inner_length : (las : ℕ) (p : Place) (s : Statement) → length (inner_symbol las p s) ≡ inner_in p s
 unfolding inner_symbol inner_in
 inner_length las p (statement.Label name) = if_length p.inside _
 inner_length las p (statement.Address rd name) = refl

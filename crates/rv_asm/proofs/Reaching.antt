@@ -125,7 +125,7 @@ if_some : (b : Bool) (x t : Target) → (if b then Some x else None) ≡ Some t 
 if_some true x t e = (refl, cc)
 if_some false x t e = (cc, cc)
 
-both : (a b : Bool) → (a && b) ≡ true → (a ≡ true) × (b ≡ true)
+pub both : (a b : Bool) → (a && b) ≡ true → (a ≡ true) × (b ≡ true)
 both true b e = (refl, e)
 both false b e = (cc, cc)
 
@@ -259,7 +259,7 @@ reaches find size place _ near h m r = tt
 
 -- ---- all items
 
-near_line : (r : Bool) (line : ℕ) (rest : Option ℕ) → (if r then rest else Some line) ≡ None → (r ≡ true) × (rest ≡ None)
+pub near_line : (r : Bool) (line : ℕ) (rest : Option ℕ) → (if r then rest else Some line) ≡ None → (r ≡ true) × (rest ≡ None)
 near_line true line rest e = (refl, e)
 near_line false line rest e = (cc, cc)
 
