@@ -6,6 +6,7 @@ pub mod Faultless
 pub mod Finding
 pub mod Fitting
 pub mod Forming
+pub mod Gathering
 pub mod Joining
 pub mod Knowing
 pub mod Laying

@@ -16,6 +16,8 @@ ghost use Rattle.rv_asm.specs.Places.{first_place};
 ghost use Rattle.rv_asm.specs.Symbols.{symbols_of};
 ghost use Rattle.rv_asm.specs.Whole.{IsWhole};
 
+use asm_text::statements_lie_in_their_text;
+
 /// The word of an instruction of the table decodes to it; so does the word of each instruction of a source that has no
 /// fault.
 #[tactic(auto, using(crate::proofs::Spelling::word_decodes, crate::proofs::Spelling::checked_decode))]
@@ -26,7 +28,6 @@ pub fn words_decode()
 
 /// The number of each mark is that of a symbol; in a source that has no fault this symbol has the name that stands in the
 /// statement, and for the second mark of `la` that of its own `.La` label.
-#[tactic(auto, using(crate::proofs::Numbering::marks_named))]
 pub fn marks_name_symbols()
     ensures numbers { (items : List Item) → All (λ m. m.symbol < length (symbols_of items)) (marks_of items) }
     ensures names { (items : List Item) → IsChecked items → map (λ m. name_of_symbol (symbols_of items) m.symbol) (marks_of items) ≡ map Some (marked_names items) }
@@ -35,4 +36,6 @@ pub fn marks_name_symbols()
 /// What the object of each source has that has no fault and at most 64 MiB.
 pub fn objects_are_whole()
     ensures { (text : List ℕ) → length text ≤ 67108864 → fault_of text ≡ None → IsWhole (source_of text).items (object_of text) }
-{}
+{
+    statements_lie_in_their_text();
+}
