@@ -6,6 +6,7 @@ use std::alloc::{AllocError, Global};
 use std::thread::Threads;
 
 /// What a command gives: the answer, and what each sink gained.
+#[derive(Drop)]
 pub struct Answer {
     pub done: Done,
     pub out: Vec<u8>,
