@@ -19,4 +19,6 @@ mod first;
 #[cfg(test)]
 mod guests;
 #[cfg(test)]
+mod sources;
+#[cfg(test)]
 mod tests;
