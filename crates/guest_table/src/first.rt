@@ -184,6 +184,15 @@ fn checks_of_cut_files(rt: HostRuntime) -> Result<(), Fail> {
     Ok(())
 }
 
+/// Compares the journal of a machine that ran in three turns.
+fn compare_turns(rt: &impl Abort, machine: &Option<Machine>, counts: [u64; 3]) {
+    let events = counts.map(|count| Event::Run { hart: 0, count });
+    match machine {
+        None => assert!(rt; false, "a run gives its machine"),
+        Some(machine) => assert_eq!(rt; machine.journal(), events.as_slice()),
+    }
+}
+
 #[test]
 fn an_output_that_fails(rt: HostRuntime) -> Result<(), Fail> {
     let words = ["run", "a.elf", "--serial"];
@@ -191,11 +200,7 @@ fn an_output_that_fails(rt: HostRuntime) -> Result<(), Fail> {
     assert_eq!(rt; told.done.status, 13);
     assert_eq!(rt; told.done.end, Some(End::Exit { code: 0 }));
     assert_eq!(rt; told.out.len() + told.report.len(), 0);
-    let events = [13, 3, 1].map(|count| Event::Run { hart: 0, count });
-    match &told.done.machine {
-        None => assert!(rt; false, "a run gives its machine"),
-        Some(machine) => assert_eq!(rt; machine.journal(), events.as_slice()),
-    }
+    compare_turns(&rt, &told.done.machine, [13, 3, 1]);
     Ok(())
 }
 

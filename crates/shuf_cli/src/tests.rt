@@ -3,6 +3,7 @@ use crate::{Done, serial_command, shuffler_main};
 use sample_files::{HOME, Sample, file_of};
 use sh_base::{MemFiles, MemSink, NoGate};
 use sh_types::{Bytes, End, Event, Items, Name};
+use shuf_machine::Machine;
 use std::alloc::{AllocError, Global};
 use std::process::Abort;
 use std::sync::Wait;
@@ -192,6 +193,15 @@ fn report_wanted(alloc: Global, want: Want) -> Result<String, AllocError> {
     }
 }
 
+/// Compares what came of a call.
+fn compare(rt: &impl Abort, alloc: Global, told: &Told, want: Want) -> Result<(), Fail> {
+    assert_eq!(rt; told.done.status, want.status);
+    assert_eq!(rt; told.out.as_slice(), want.out.as_bytes());
+    let report = report_wanted(alloc, want)?;
+    assert_eq!(rt; told.report.as_slice(), report.as_bytes());
+    Ok(())
+}
+
 /// Does a command over the files, and compares.
 fn expect_over<R: Threads + Sync + Abort>(
     rt: &R,
@@ -201,11 +211,7 @@ fn expect_over<R: Threads + Sync + Abort>(
     want: Want,
 ) -> Result<(), Fail> {
     let told = call(rt, alloc, words, files, want.out_fails, want.report_fails)?;
-    assert_eq!(rt; told.done.status, want.status);
-    assert_eq!(rt; told.out.as_slice(), want.out.as_bytes());
-    let report = report_wanted(alloc, want)?;
-    assert_eq!(rt; told.report.as_slice(), report.as_bytes());
-    Ok(())
+    compare(rt, alloc, &told, want)
 }
 
 /// Does a command over the file `a.elf`, and compares.
@@ -244,21 +250,23 @@ fn checks(rt: HostRuntime) -> Result<(), Fail> {
     expect(&rt, alloc, &CHECK, &guest(alloc, 17, 0)?, want)
 }
 
+/// Compares the journal of a machine that ran in three turns.
+fn compare_turns(rt: &impl Abort, machine: &Option<Machine>, counts: [u64; 3]) {
+    let events = counts.map(|count| Event::Run { hart: 0, count });
+    match machine {
+        None => assert!(rt; false, "a run gives its machine"),
+        Some(machine) => assert_eq!(rt; machine.journal(), events.as_slice()),
+    }
+}
+
 #[test]
 fn a_run_hands_out_its_machine(rt: HostRuntime) -> Result<(), Fail> {
     let alloc = rt.alloc();
     let mut files = files_of(&rt, alloc, "a.elf", &guest(alloc, 17, 0)?, None)?;
     let told = call_main(&rt, alloc, &RUN, &mut files)?;
-    assert_eq!(rt; told.done.status, 0);
+    compare(&rt, alloc, &told, exits("hi\n", 17, 0))?;
     assert_eq!(rt; told.done.end, Some(End::Exit { code: 0 }));
-    assert_eq!(rt; told.out.as_slice(), b"hi\n".as_slice());
-    let report = report_wanted(alloc, exits("hi\n", 17, 0))?;
-    assert_eq!(rt; told.report.as_slice(), report.as_bytes());
-    let events = [13, 3, 1].map(|count| Event::Run { hart: 0, count });
-    match &told.done.machine {
-        None => assert!(rt; false, "a run gives its machine"),
-        Some(machine) => assert_eq!(rt; machine.journal(), events.as_slice()),
-    }
+    compare_turns(&rt, &told.done.machine, [13, 3, 1]);
     Ok(())
 }
 
