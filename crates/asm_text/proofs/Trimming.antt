@@ -3,7 +3,7 @@ use Rattle.std.proofs.Common.{◌≡◌, ℕ, ◌+◌, ◌-◌, ◌<◌, ◌≤�
 use Rattle.std.proofs.lemmas.List.{at_drop_more, take_more}
 use Rattle.asm_text.specs.Characters.{is_blank, joined, trimmed_start, trimmed_end}
 
-start_no : (c : ℕ) (cs : List ℕ) → is_blank c ≡ true → trimmed_start (c ∷ cs) ≡ trimmed_start cs
+pub start_no : (c : ℕ) (cs : List ℕ) → is_blank c ≡ true → trimmed_start (c ∷ cs) ≡ trimmed_start cs
 unfolding trimmed_start
 start_no c cs on = rw on refl
 

@@ -4,6 +4,7 @@ pub mod Numbers
 pub mod Reading
 pub mod Registers
 pub mod Seen
+pub mod Sizes
 pub mod Source
 pub mod Statements
 pub mod Tables

@@ -4,6 +4,7 @@
 mod characters;
 mod faults;
 mod forms;
+mod laws;
 mod lines;
 mod mnemonics;
 mod naming;
@@ -15,6 +16,7 @@ mod shapes;
 mod statements;
 
 pub use faults::{AsmFault, AsmRule, LineFault};
+pub use laws::statements_lie_in_their_text;
 pub use lines::{Source, read};
 pub use statements::{Item, Statement};
 

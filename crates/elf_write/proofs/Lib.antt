@@ -8,3 +8,4 @@ pub mod Numbers
 pub mod Reading
 pub mod Saying
 pub mod Widths
+pub mod Whole

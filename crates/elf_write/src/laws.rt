@@ -1,13 +1,24 @@
 //! What the file of an object has.
 ghost use Rattle.std.specs.List.{All};
-ghost use Rattle.std.specs.Prelude.{◌≡◌, map, ◌<◌, ◌^◌};
+ghost use Rattle.std.specs.Prelude.{◌≡◌, map, ◌<◌, ◌≤◌, ◌^◌, List, ℕ, None, length};
 ghost use Rattle.rv_asm.specs.declared.object.Object.{Object};
+ghost use Rattle.rv_asm.specs.Object.{object_of};
+ghost use Rattle.rv_asm.specs.Passes.{fault_of};
 ghost use Rattle.sh_types.specs.declared.elf.Head.{Head};
 ghost use Rattle.sh_types.specs.Elf.{heads_of, name_at, section_names as section_names_of, symbols_of};
 ghost use Rattle.elf_write.specs.Held.{HoldsAll, IsPlain, SaysAll};
 ghost use Rattle.elf_write.specs.Parts.{parts_of, section_names};
 ghost use Rattle.elf_write.specs.Writable.{IsWritable};
 ghost use Rattle.elf_write.specs.Written.{elf_file, entry_home};
+
+use rv_asm::objects_are_whole;
+
+/// The object of a source that has no fault and at most 64 MiB can be written.
+pub fn assembled_objects_are_writable()
+    ensures { (text : List ℕ) → length text ≤ 67108864 → fault_of text ≡ None → IsWritable (object_of text) }
+{
+    objects_are_whole();
+}
 
 /// The file of an object has each part where its headers say, and ends with the section headers.
 pub fn files_hold_their_parts()

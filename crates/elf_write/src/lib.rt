@@ -13,7 +13,8 @@ mod symbols;
 mod write;
 
 pub use laws::{
-    files_hold_their_parts, files_name_their_sections, files_name_their_symbols, files_say_where,
+    assembled_objects_are_writable, files_hold_their_parts, files_name_their_sections,
+    files_name_their_symbols, files_say_where,
 };
 pub use write::write_elf;
 

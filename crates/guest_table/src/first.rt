@@ -4,13 +4,12 @@ ghost use Rattle.std.specs.Prelude.{◌≡◌, Some};
 ghost use Rattle.sh_types.specs.Runnable.{IsRunnable};
 ghost use Rattle.sh_types.specs.Thin.{thin_image};
 
+use crate::calls::{Answer, call, files_of};
 use crate::elf::thin_file;
 use crate::read_thin;
 use elf_table::patches::{Patch, THREE_SYMBOL, first_file, patch};
 use sample_files::HOME;
-use sh_base::{MemFiles, MemSink};
-use sh_types::{Bytes, End, Event, FetchLog, Fetched, Image, Items, Name, NoMemory};
-use shuf_cli::{Done, serial_command};
+use sh_types::{Bytes, End, Event, FetchLog, Fetched, Image, NoMemory};
 use shuf_machine::{Machine, MachineNo, No, Origin};
 use std::alloc::{AllocError, Global};
 use std::process::Abort;
@@ -117,44 +116,16 @@ fn a_hart_that_was_never_started(rt: HostRuntime) -> Result<(), Fail> {
     Ok(())
 }
 
-/// Files that hold these bytes as `a.elf`.
-fn files_of(alloc: Global, file: Vec<u8>) -> Result<MemFiles, AllocError> {
-    let mut names = Items::new(alloc);
-    names.push(Name::from_str(alloc, "a.elf")?)?;
-    let mut contents = Items::new(alloc);
-    contents.push(Bytes::from_vec(file))?;
-    Ok(MemFiles::new(alloc, names, contents, Items::new(alloc)))
-}
-
-/// A sink that fails at its first write, or at none.
-fn sink_of(alloc: Global, fails: bool) -> Result<MemSink, AllocError> {
-    let mut numbers = Items::new(alloc);
-    if fails {
-        numbers.push(0)?;
-    }
-    MemSink::new(alloc, 4096, numbers).map_err(|_| AllocError)
-}
-
-/// What a command gives over this file and a sink that may fail: the answer, and what each sink gained.
+/// What a command gives over this file as `a.elf`, and an output that fails or not.
 fn answer_of<R: Threads + Sync>(
     rt: &R,
     alloc: Global,
     words: &[&str],
     file: Vec<u8>,
     fails: bool,
-) -> Result<(Done, Vec<u8>, Vec<u8>), AllocError> {
-    let mut texts = Vec::new(alloc);
-    for word in words {
-        texts.push(String::from_str(alloc, word)?)?;
-    }
-    let mut files = files_of(alloc, file)?;
-    let mut out = sink_of(alloc, fails)?;
-    let mut report = sink_of(alloc, false)?;
-    let seed = [0; 32];
-    let done = serial_command(rt, alloc, &texts, &mut files, &mut out, &mut report, &seed);
-    let written = Vec::from_slice(alloc, out.content())?;
-    let told = Vec::from_slice(alloc, report.content())?;
-    Ok((done, written, told))
+) -> Result<Answer, AllocError> {
+    let mut files = files_of(alloc, "a.elf", file)?;
+    call(rt, alloc, words, &mut files, fails)
 }
 
 /// The same over the first guest's file.
@@ -163,7 +134,7 @@ fn answer<R: Threads + Sync>(
     alloc: Global,
     words: &[&str],
     fails: bool,
-) -> Result<(Done, Vec<u8>, Vec<u8>), AllocError> {
+) -> Result<Answer, AllocError> {
     let file = thin_file(alloc, HOME, &SIZES, &CODE)?;
     answer_of(rt, alloc, words, file, fails)
 }
@@ -189,10 +160,10 @@ fn checks_of_patched_files(rt: HostRuntime) -> Result<(), Fail> {
     for (one, status, out, report) in cases {
         let mut file = first_file(rt.alloc())?;
         patch(&mut file, one);
-        let (done, written, told) = answer_of(&rt, rt.alloc(), &["check", "a.elf"], file, false)?;
-        assert_eq!(rt; done.status, status);
-        assert_eq!(rt; written.as_slice(), out.as_bytes());
-        assert_eq!(rt; told.as_slice(), report.as_bytes());
+        let told = answer_of(&rt, rt.alloc(), &["check", "a.elf"], file, false)?;
+        assert_eq!(rt; told.done.status, status);
+        assert_eq!(rt; told.out.as_slice(), out.as_bytes());
+        assert_eq!(rt; told.report.as_slice(), report.as_bytes());
     }
     Ok(())
 }
@@ -205,26 +176,31 @@ fn checks_of_cut_files(rt: HostRuntime) -> Result<(), Fail> {
         let mut file = first_file(rt.alloc())?;
         file.truncate(size);
         let words = ["check", "a.elf"];
-        let (done, written, told) = answer_of(&rt, rt.alloc(), &words, file, false)?;
-        assert_eq!(rt; done.status, 12);
-        assert_eq!(rt; written.len(), 0);
-        assert_eq!(rt; told.as_slice(), report.as_bytes());
+        let told = answer_of(&rt, rt.alloc(), &words, file, false)?;
+        assert_eq!(rt; told.done.status, 12);
+        assert_eq!(rt; told.out.len(), 0);
+        assert_eq!(rt; told.report.as_slice(), report.as_bytes());
     }
     Ok(())
+}
+
+/// Compares the journal of a machine that ran in three turns.
+fn compare_turns(rt: &impl Abort, machine: &Option<Machine>, counts: [u64; 3]) {
+    let events = counts.map(|count| Event::Run { hart: 0, count });
+    match machine {
+        None => assert!(rt; false, "a run gives its machine"),
+        Some(machine) => assert_eq!(rt; machine.journal(), events.as_slice()),
+    }
 }
 
 #[test]
 fn an_output_that_fails(rt: HostRuntime) -> Result<(), Fail> {
     let words = ["run", "a.elf", "--serial"];
-    let (done, written, told) = answer(&rt, rt.alloc(), &words, true)?;
-    assert_eq!(rt; done.status, 13);
-    assert_eq!(rt; done.end, Some(End::Exit { code: 0 }));
-    assert_eq!(rt; written.len() + told.len(), 0);
-    let events = [13, 3, 1].map(|count| Event::Run { hart: 0, count });
-    match &done.machine {
-        None => assert!(rt; false, "a run gives its machine"),
-        Some(machine) => assert_eq!(rt; machine.journal(), events.as_slice()),
-    }
+    let told = answer(&rt, rt.alloc(), &words, true)?;
+    assert_eq!(rt; told.done.status, 13);
+    assert_eq!(rt; told.done.end, Some(End::Exit { code: 0 }));
+    assert_eq!(rt; told.out.len() + told.report.len(), 0);
+    compare_turns(&rt, &told.done.machine, [13, 3, 1]);
     Ok(())
 }
 
@@ -236,10 +212,10 @@ fn words_that_are_no_command(rt: HostRuntime) -> Result<(), Fail> {
         &["run", "a.elf", "--steps", "1", "--steps", "1"],
     ];
     for words in lists {
-        let (done, written, told) = answer(&rt, rt.alloc(), words, false)?;
-        assert_eq!(rt; done.status, 10);
-        assert_eq!(rt; written.len(), 0);
-        assert_eq!(rt; told.as_slice(), b"shuffler: usage\n".as_slice());
+        let told = answer(&rt, rt.alloc(), words, false)?;
+        assert_eq!(rt; told.done.status, 10);
+        assert_eq!(rt; told.out.len(), 0);
+        assert_eq!(rt; told.report.as_slice(), b"shuffler: usage\n".as_slice());
     }
     Ok(())
 }

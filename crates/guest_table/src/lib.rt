@@ -9,10 +9,16 @@ pub use plain::{Ran, run_plain};
 pub use thin::read_thin;
 
 #[cfg(test)]
+mod assembly;
+#[cfg(test)]
+mod calls;
+#[cfg(test)]
 mod elf;
 #[cfg(test)]
 mod first;
 #[cfg(test)]
 mod guests;
+#[cfg(test)]
+mod sources;
 #[cfg(test)]
 mod tests;

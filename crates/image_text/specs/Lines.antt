@@ -1,5 +1,5 @@
--- The lines on files that have no image. This project's own format: numbers in decimal, addresses in lower-case
--- hexadecimal digits without leading zeros.
+-- The lines on files that have no image, and on sources that have no object. This project's own format: numbers in
+-- decimal, addresses in lower-case hexadecimal digits without leading zeros.
 use Rattle.std.specs.Prelude.{ℕ, false, List, [], ◌∷◌, ◌++◌, codes, decimal}
 use Rattle.std.specs.Fmt.{digits}
 use Rattle.sh_types.specs.declared.refusals.ElfRule.{ElfRule}
@@ -10,6 +10,8 @@ use Rattle.sh_types.specs.declared.refusals.LoadFault.{LoadFault}
 use Rattle.sh_types.specs.declared.refusals.LoadFault.TheVariants.{NoMemory, Elf, Limit, Split}
 use Rattle.sh_types.specs.declared.refusals.SplitRule.{SplitRule}
 use Rattle.sh_types.specs.declared.refusals.SplitRule.TheVariants.{Unaligned, Size, Overlap, EntryInside}
+use Rattle.asm_text.specs.declared.faults.AsmRule.{AsmRule}
+use Rattle.asm_text.specs.declared.faults.AsmRule.TheVariants as source_rules
 
 -- pieces of text, one behind the other
 abbrev pub text : List (List ℕ) → List ℕ
@@ -52,3 +54,16 @@ fault_line NoMemory = []
 fault_line (Elf rule) = text (codes "shuffler: refused: elf " ∷ elf_word rule ∷ codes "\n" ∷ [])
 fault_line (Limit kind value) = text (codes "shuffler: refused: limit " ∷ limit_word kind ∷ codes " " ∷ decimal value ∷ codes "\n" ∷ [])
 fault_line (Split home rule) = text (codes "shuffler: refused: split " ∷ split_word rule ∷ codes " at 0x" ∷ digits 16 false home ∷ codes "\n" ∷ [])
+
+abbrev pub source_word : AsmRule → List ℕ
+source_word source_rules.Text = codes "Text"
+source_word source_rules.Form = codes "Form"
+source_word source_rules.Name = codes "Name"
+source_word source_rules.Twice = codes "Twice"
+source_word source_rules.Range = codes "Range"
+source_word source_rules.Entry = codes "Entry"
+source_word source_rules.Open = codes "Open"
+
+-- the line on a source that breaks a rule
+unfoldable pub source_line : ℕ → AsmRule → List ℕ
+source_line line rule = text (codes "shuffler: refused: line " ∷ decimal line ∷ codes " " ∷ source_word rule ∷ codes "\n" ∷ [])

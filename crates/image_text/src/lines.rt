@@ -1,7 +1,8 @@
-//! The lines on files that have no image.
+//! The lines on files that have no image, and on sources that have no object.
 ghost use Rattle.std.specs.Prelude.{◌≡◌, IfOk, IfErr, string_bytes};
-ghost use Rattle.image_text.specs.Lines.{elf_word as elf_word_of, limit_word as limit_word_of, split_word as split_word_of, fault_line};
+ghost use Rattle.image_text.specs.Lines.{elf_word as elf_word_of, limit_word as limit_word_of, split_word as split_word_of, fault_line, source_word as source_word_of, source_line as source_line_of};
 
+use asm_text::AsmRule;
 use sh_types::{ElfRule, LimitKind, LoadFault, NoMemory, SplitRule};
 use std::alloc::{AllocError, Global};
 
@@ -76,4 +77,28 @@ pub fn refusal_line(alloc: Global, fault: LoadFault) -> Result<String, NoMemory>
     ensures { IfOk result (λ line. string_bytes line ≡ fault_line fault) }
 {
     Ok(line(alloc, fault)?)
+}
+
+fn source_word(rule: AsmRule) -> &'static str
+    ensures { result.now ≡ source_word_of rule }
+{
+    match rule {
+        AsmRule::Text => "Text",
+        AsmRule::Form => "Form",
+        AsmRule::Name => "Name",
+        AsmRule::Twice => "Twice",
+        AsmRule::Range => "Range",
+        AsmRule::Entry => "Entry",
+        AsmRule::Open => "Open",
+    }
+}
+
+/// The line on a source that is refused: the number of its line, from 1 on, and the rule that this line breaks. Err
+/// only where memory is refused.
+#[tactic(auto, unfolding(crate::specs::Lines::source_line))]
+pub fn source_line(alloc: Global, line: u32, rule: AsmRule) -> Result<String, NoMemory>
+    ensures { IfOk result (λ text. string_bytes text ≡ source_line_of line rule) }
+{
+    let word = source_word(rule);
+    Ok(format!(in alloc; "shuffler: refused: line {line} {word}\n")?)
 }

@@ -1,10 +1,10 @@
 -- What a source gives has registers below 32, and instructions of the forms that their mnemonics have.
-use Rattle.std.proofs.Common.{◌≡◌, ℕ, ◌<◌, ◌+◌, Bool, true, false, List, [], ◌∷◌, ◌++◌, length, refl, subst, lit<}
-use Rattle.std.specs.Prelude.{ℤ, pos, ◌==◌, ◌&&◌, ◌||◌, nat_lt, Option, Some, None, map, option_map, option_and_then, if◌then◌else◌}
+use Rattle.std.proofs.Common.{◌≡◌, ℕ, ◌<◌, ◌+◌, Bool, true, false, List, [], ◌∷◌, ◌++◌, length, refl, sym, subst, lit<, ⊎_elim}
+use Rattle.std.specs.Prelude.{ℤ, pos, ◌==◌, ◌&&◌, ◌||◌, nat_lt, Option, Some, None, Contains, map, option_map, option_and_then, if◌then◌else◌}
 use Rattle.std.specs.List.{All, list_any}
 use Rattle.std.specs.Str.{bytes_eq}
-use Rattle.std.proofs.lemmas.Bool.{ltb-true}
-use Rattle.std.proofs.lemmas.List.Elements.{All-nil, All-cons, All-append, All-map}
+use Rattle.std.proofs.lemmas.Bool.{ltb-true, eqb-true, or_cases}
+use Rattle.std.proofs.lemmas.List.Elements.{All-nil, All-cons, All-append, All-map, Contains-append_right}
 use Rattle.sh_types.specs.Instruction.{Form, row_of, form_number}
 use Rattle.sh_types.specs.Instruction.Form.{Upper, Branch, Immediate, Storing, Register, Shift6, Shift5, Atomic, Reserving, Fencing, Whole}
 use Rattle.sh_types.specs.declared.instructions.Op.{Op}
@@ -208,9 +208,15 @@ naming_fits (naming.Branch op) = number_is 2 op
 naming_fits (naming.BranchZero op) = number_is 2 op
 naming_fits _ = true
 
+-- values of this width, which may be names
+abbrev width_fits : ℕ → Bool → Bool
+width_fits width true = (width == 4) || (width == 8)
+width_fits width false = width == 1
+
 abbrev shape_fits : Shape → Bool
 shape_fits (shape.Plain s) = plain_fits s
 shape_fits (shape.Naming s) = naming_fits s
+shape_fits (shape.Values width names) = width_fits width names
 shape_fits _ = true
 
 group : (test : Op → Bool) (rows : List (List ℕ × Op)) (name : List ℕ) (make : Op → Shape) (others : Option Shape) → rows_pass test rows ≡ true → ((op : Op) → test op ≡ true → shape_fits (make op) ≡ true)
@@ -398,20 +404,29 @@ each_good P read h (text ∷ texts) =
     bind (All P) (h text) (λ x. each read texts >>= (λ xs. Some (x ∷ xs))) (λ x a.
     bind (All P) (each_good P read h texts) (λ xs. Some (x ∷ xs)) (λ xs b. some (All P) (x ∷ xs) (All-cons P x xs a b)))
 
-named_value : (width : ℕ) (names : Bool) (text : List ℕ) → Good IsFormed (if names then option_map (statement.Reference width) (name_of text) else None)
-named_value width names text = guarded IsFormed names (option_map (statement.Reference width) (name_of text)) (named_good (statement.Reference width) text (λ n. tt))
+name_width : (width : ℕ) → width_fits width true ≡ true → Contains (4 ∷ 8 ∷ []) width
+name_width width e = ⊎_elim (λ a. (0, lit< tt, sym (eqb-true width 4 a))) (λ b. (1, lit< tt, sym (eqb-true width 8 b))) (or_cases (width == 4) (width == 8) e)
 
-number_or : (width : ℕ) (number : Option ℤ) (other : Option Statement) → Good IsFormed other → Good IsFormed (elim number [ Some n ↦ Some (statement.Value width n) | None ↦ other ])
-number_or width None other h = h
-number_or width (Some n) other h = some IsFormed (statement.Value width n) tt
+number_width : (width : ℕ) (names : Bool) → width_fits width names ≡ true → Contains (1 ∷ 4 ∷ 8 ∷ []) width
+number_width width true e = Contains-append_right (1 ∷ []) (4 ∷ 8 ∷ []) width (name_width width e)
+number_width width false e = (0, lit< tt, sym (eqb-true width 1 e))
 
-value_good : (width : ℕ) (names : Bool) (text : List ℕ) → Good IsFormed (value_of width names text)
+named_value : (width : ℕ) (names : Bool) (text : List ℕ) → width_fits width names ≡ true → Good IsFormed (if names then option_map (statement.Reference width) (name_of text) else None)
+named_value width true text e = named_good (statement.Reference width) text (λ n. name_width width e)
+named_value width false text e = none IsFormed
+
+number_or : (width : ℕ) (number : Option ℤ) (other : Option Statement) → Contains (1 ∷ 4 ∷ 8 ∷ []) width → Good IsFormed other → Good IsFormed (elim number [ Some n ↦ Some (statement.Value width n) | None ↦ other ])
+number_or width None other w h = h
+number_or width (Some n) other w h = some IsFormed (statement.Value width n) w
+
+value_good : (width : ℕ) (names : Bool) (text : List ℕ) → width_fits width names ≡ true → Good IsFormed (value_of width names text)
 unfolding value_of
-value_good width names text = number_or width (number_of text) (if names then option_map (statement.Reference width) (name_of text) else None) (named_value width names text)
+value_good width names text e =
+    number_or width (number_of text) (if names then option_map (statement.Reference width) (name_of text) else None) (number_width width names e) (named_value width names text e)
 
-values_good : (width : ℕ) (names : Bool) (text : List ℕ) → Good (All IsFormed) (values_of width names text)
+values_good : (width : ℕ) (names : Bool) (text : List ℕ) → width_fits width names ≡ true → Good (All IsFormed) (values_of width names text)
 unfolding values_of
-values_good width names text = each_good IsFormed (value_of width names) (value_good width names) (parts (λ c. c == 44) text)
+values_good width names text e = each_good IsFormed (value_of width names) (λ t. value_good width names t e) (parts (λ c. c == 44) text)
 
 -- ---- whole statements, lines and sources
 
@@ -422,7 +437,7 @@ body_good : (s : Shape) (text : List ℕ) → shape_fits s ≡ true → Good (Al
 unfolding body_of
 body_good (shape.Plain s) text e = alone_in_good (plain_of s text) (plain_good s text e)
 body_good (shape.Naming s) text e = alone_in_good (naming_of s text) (naming_good s text e)
-body_good (shape.Values width names) text e = values_good width names text
+body_good (shape.Values width names) text e = values_good width names text e
 body_good shape.Ascii text e = alone_in_good (option_map statement.Ascii (string_of text)) (mapped IsFormed (any (string_of text)) statement.Ascii (λ n u. tt))
 
 nothing_or : (t : Bool) (other : Option (List Statement)) → Good (All IsFormed) other → Good (All IsFormed) (if t then Some [] else other)

@@ -21,7 +21,7 @@ moved true false c = refl
 moved false true c = refl
 moved false false c = refl
 
-taken_with : (key : Option (ℕ × List ℕ)) (keys : List (ℕ × List ℕ)) (other : ℕ × List ℕ) → (is_key key other || is_taken keys other) ≡ is_taken (keys_with key keys) other
+pub taken_with : (key : Option (ℕ × List ℕ)) (keys : List (ℕ × List ℕ)) (other : ℕ × List ℕ) → (is_key key other || is_taken keys other) ≡ is_taken (keys_with key keys) other
 unfolding is_taken
 taken_with None keys other = refl
 taken_with (Some key) keys other = refl

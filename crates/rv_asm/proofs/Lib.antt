@@ -3,11 +3,17 @@ pub mod Appending
 pub mod Counting
 pub mod Ending
 pub mod Faultless
+pub mod Finding
 pub mod Fitting
 pub mod Forming
+pub mod Gathering
+pub mod Joining
 pub mod Knowing
 pub mod Laying
 pub mod Marking
+pub mod MarksLie
+pub mod MarksName
+pub mod NameSizes
 pub mod Naming
 pub mod Narrow
 pub mod Numbering

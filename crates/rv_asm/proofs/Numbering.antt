@@ -1,5 +1,5 @@
 -- The numbers of marks are those of symbols.
-use Rattle.std.proofs.Common.{◌≡◌, ℕ, suc, ◌+◌, ◌<◌, ◌≤◌, Bool, true, false, List, [], ◌∷◌, ◌++◌, length, refl, sym, ap, subst, ◌∙◌, arith}
+use Rattle.std.proofs.Common.{◌≡◌, ℕ, suc, ◌+◌, ◌<◌, ◌≤◌, Bool, true, false, List, [], ◌∷◌, ◌++◌, length, refl, arith}
 use Rattle.std.specs.Prelude.{Option, Some, None, map, if◌then◌else◌}
 use Rattle.std.specs.List.{All}
 use Rattle.std.proofs.lemmas.List.Elements.{All-nil, All-cons, All-append}
@@ -37,7 +37,7 @@ if_length : (t : Bool) (s : Scoped) → length (if t then s ∷ [] else []) ≡ 
 if_length true s = refl
 if_length false s = refl
 
-inner_length : (las : ℕ) (p : Place) (s : Statement) → length (inner_symbol las p s) ≡ inner_in p s
+pub inner_length : (las : ℕ) (p : Place) (s : Statement) → length (inner_symbol las p s) ≡ inner_in p s
 unfolding inner_symbol inner_in
 inner_length las p (statement.Label name) = if_length p.inside _
 inner_length las p (statement.Address rd name) = refl

@@ -68,10 +68,10 @@ neither : (a b : Bool) → (a || b) ≡ false → (a ≡ false) × (b ≡ false)
 neither true b e = (cc, cc)
 neither false b e = (refl, e)
 
-short_text : (p : Place) → is_past p ≡ false → p.text ≤ 67108864
+pub short_text : (p : Place) → is_past p ≡ false → p.text ≤ 67108864
 short_text p e = ltb-false 67108864 p.text (neither (nat_lt 67108864 p.text) (nat_lt 67108864 p.«data») e).0
 
-short_data : (p : Place) → is_past p ≡ false → p.«data» ≤ 67108864
+pub short_data : (p : Place) → is_past p ≡ false → p.«data» ≤ 67108864
 short_data p e = ltb-false 67108864 p.«data» (neither (nat_lt 67108864 p.text) (nat_lt 67108864 p.«data») e).1
 
 literal_four : (t : Bool) → (if t then 4 else 8) % 4 ≡ 0
@@ -100,7 +100,7 @@ even_after place s h short =
 even_first : Even first_place
 even_first = record { four = refl; begun = λ e. absurd (cc); short = refl }
 
-last_short : (place : Place) (items : List Item) → is_past place ≡ false → range_line place items ≡ None → is_past (last_place place items) ≡ false
+pub last_short : (place : Place) (items : List Item) → is_past place ≡ false → range_line place items ≡ None → is_past (last_place place items) ≡ false
 unfolding last_place
 last_short place [] p e = p
 last_short place (item ∷ items) p e = let fine = all_fine place item items e in last_short (place_after place item.statement) items fine.1 fine.2
@@ -125,7 +125,7 @@ if_some : (b : Bool) (x t : Target) → (if b then Some x else None) ≡ Some t 
 if_some true x t e = (refl, cc)
 if_some false x t e = (cc, cc)
 
-both : (a b : Bool) → (a && b) ≡ true → (a ≡ true) × (b ≡ true)
+pub both : (a b : Bool) → (a && b) ≡ true → (a ≡ true) × (b ≡ true)
 both true b e = (refl, e)
 both false b e = (cc, cc)
 
@@ -259,11 +259,11 @@ reaches find size place _ near h m r = tt
 
 -- ---- all items
 
-near_line : (r : Bool) (line : ℕ) (rest : Option ℕ) → (if r then rest else Some line) ≡ None → (r ≡ true) × (rest ≡ None)
+pub near_line : (r : Bool) (line : ℕ) (rest : Option ℕ) → (if r then rest else Some line) ≡ None → (r ≡ true) × (rest ≡ None)
 near_line true line rest e = (refl, e)
 near_line false line rest e = (cc, cc)
 
-placed_line : (m : Bool) (line : ℕ) (rest : Option ℕ) → (if m then Some line else rest) ≡ None → (m ≡ false) × (rest ≡ None)
+pub placed_line : (m : Bool) (line : ℕ) (rest : Option ℕ) → (if m then Some line else rest) ≡ None → (m ≡ false) × (rest ≡ None)
 placed_line true line rest e = (cc, cc)
 placed_line false line rest e = (refl, e)
 

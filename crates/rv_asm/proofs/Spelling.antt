@@ -1,11 +1,11 @@
 -- The words of instructions decode to them.
-use Rattle.std.proofs.Common.{◌≡◌, ◌∙◌, ℕ, ◌+◌, ◌-◌, ◌*◌, ◌/◌, ◌%◌, ◌^◌, ◌<◌, Bool, true, false, List, [], ◌∷◌, refl, ap, arith}
+use Rattle.std.proofs.Common.{◌≡◌, ◌∙◌, ℕ, ◌^◌, ◌<◌, Bool, true, false, List, [], ◌∷◌, refl, ap, arith}
 use Rattle.std.specs.Prelude.{ℤ, pos, negsuc, ◌&&◌, nat_lt, Option, Some, map}
 use Rattle.std.proofs.lemmas.Bool.{ltb-true}
 use Rattle.sh_types.specs.declared.instructions.Op.{Op}
 use Rattle.sh_types.specs.declared.instructions.Op.TheVariants.{Lui}
 use Rattle.sh_types.specs.declared.instructions.Instr.{Instr}
-use Rattle.sh_types.specs.Instruction.{Form, Row, row_of, low_bits, IsSigned, FieldsFit, IsInstr, Encodes, fields, word_of}
+use Rattle.sh_types.specs.Instruction.{Form, Row, row_of, low_bits, IsSigned, FieldsFit, IsInstr, fields, word_of}
 use Rattle.sh_types.specs.Instruction.Form.{Upper, Jump, Branch, Immediate, Storing, Register, Shift6, Shift5, Atomic, Reserving, Fencing, Whole}
 use Rattle.sh_types.specs.Decoding.{decoded}
 use Rattle.sh_types.proofs.Reading.{decoded_encodes}

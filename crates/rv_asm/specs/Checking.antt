@@ -21,8 +21,9 @@ Checks (Ok items) (Some f) all = ⊥
 Checks (Err refusal.NoMemory) found all = Unit {0}
 Checks (Err (refusal.Line line rule)) found all = found ≡ Some (record { line = line; rule = rule })
 
--- The items of a source that has no fault: each statement has the operands of its form and is in its place, no name stands twice and each is known, all
--- operands are in range and all targets near enough, each function ends, and the entry is one.
+-- The items of a source that has no fault: each statement has the operands of its form and is in its place, no name
+-- stands twice and each is known, all operands are in range and all targets near enough, each function ends, and the
+-- entry is one.
 pub record IsChecked (items : List Item) : Type 0 where
   pub formed : AreFormed items
   pub placed : misplaced_line false items ≡ None

@@ -1,5 +1,6 @@
--- What the text of a statement gives by itself: registers below 32, and the operands of the instruction's form.
-use Rattle.std.specs.Prelude.{◌≡◌, ℕ, ℤ, pos, ◌<◌, List}
+-- What the text of a statement gives by itself: registers below 32, the operands of the instruction's form, and the
+-- width of a value.
+use Rattle.std.specs.Prelude.{◌≡◌, ℕ, ℤ, pos, ◌<◌, List, [], ◌∷◌, Contains}
 use Rattle.std.specs.List.{All}
 use Rattle.sh_types.specs.Instruction.{Form, row_of}
 use Rattle.sh_types.specs.Instruction.Form.{Upper, Jump, Branch, Immediate, Storing, Register, Shift6, Shift5, Atomic, Reserving, Fencing, Whole}
@@ -23,7 +24,8 @@ HasOperands rd rs1 rs2 imm Reserving = (rd < 32) × (rs1 < 32) × (rs2 ≡ 0) ×
 HasOperands rd rs1 rs2 imm Fencing = (rd ≡ 0) × (rs1 ≡ 0) × (rs2 ≡ 0) × (imm ≡ pos 0)
 HasOperands rd rs1 rs2 imm Whole = (rd ≡ 0) × (rs1 ≡ 0) × (rs2 ≡ 0) × (imm ≡ pos 0)
 
--- the registers of a statement are below 32, and its instruction has the operands of its form
+-- the registers of a statement are below 32, and its instruction has the operands of its form; a number of `.byte`,
+-- `.word` and `.quad` has their width, and so has a name of the latter two
 abbrev pub IsFormed : Statement → Type 0
 IsFormed (statement.Plain op rd rs1 rs2 imm) = HasOperands rd rs1 rs2 imm (row_of op).form
 IsFormed (statement.Upper op rd value) = (rd < 32) × ((row_of op).form ≡ Upper)
@@ -31,6 +33,8 @@ IsFormed (statement.Branch op rs1 rs2 label) = (rs1 < 32) × (rs2 < 32) × ((row
 IsFormed (statement.Jump rd target) = rd < 32
 IsFormed (statement.Literal rd value) = rd < 32
 IsFormed (statement.Address rd name) = rd < 32
+IsFormed (statement.Value width value) = Contains (1 ∷ 4 ∷ 8 ∷ []) width
+IsFormed (statement.Reference width name) = Contains (4 ∷ 8 ∷ []) width
 IsFormed _ = Unit {0}
 
 -- each statement is so

@@ -15,5 +15,6 @@ pub mod Seen
 pub mod Sets
 pub mod Symbols
 pub mod Targets
+pub mod Whole
 pub mod Words
 pub mod Writing

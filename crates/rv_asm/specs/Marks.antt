@@ -1,12 +1,13 @@
 -- The marks of what refers to what (RISC-V psABI, "Relocations").
-use Rattle.std.specs.Prelude.{ℕ, ◌+◌, ◌==◌, Bool, true, false, Option, Some, None, List, [], ◌∷◌, length, if◌then◌else◌}
+use Rattle.std.specs.Prelude.{ℕ, ◌+◌, ◌==◌, Bool, true, false, Option, Some, None, List, [], ◌∷◌, length, slice_get, option_map, if◌then◌else◌}
+use Rattle.sh_types.specs.declared.elf.Symbol.{Symbol}
 use Rattle.asm_text.specs.declared.statements.Statement.{Statement}
 use Rattle.asm_text.specs.declared.statements.Statement.TheVariants as statement
 use Rattle.asm_text.specs.declared.statements.Item.{Item}
 use Rattle.rv_asm.specs.declared.places.Place.{Place}
 use Rattle.rv_asm.specs.declared.object.Mark.{Mark}
 use Rattle.rv_asm.specs.Places.{first_place}
-use Rattle.rv_asm.specs.Symbols.{counted, named_symbols, outer_symbols, number_in}
+use Rattle.rv_asm.specs.Symbols.{counted, named_symbols, outer_symbols, number_in, la_name, las_in}
 
 abbrev pub mark : Bool → ℕ → ℕ → ℕ → Mark
 mark in_text at kind symbol = record { in_text = in_text; at = at; kind = kind; symbol = symbol }
@@ -44,3 +45,23 @@ inner_in p _ = 0
 -- and the labels of the data
 abbrev pub marks_of : List Item → List Mark
 marks_of items = counted (marks_at (number_in (named_symbols items)) (length (outer_symbols items) + 1)) inner_in 0 first_place items
+
+-- ---- what they name
+
+-- the names of the symbols of a statement's marks, behind so many `.La` labels
+unfoldable pub names_at : ℕ → Place → Statement → List (List ℕ)
+names_at las p (statement.Branch op rs1 rs2 label) = label ∷ []
+names_at las p (statement.Jump rd target) = target ∷ []
+names_at las p (statement.Call name) = name ∷ []
+names_at las p (statement.Tail name) = name ∷ []
+names_at las p (statement.Address rd name) = name ∷ la_name las ∷ []
+names_at las p (statement.Reference width name) = name ∷ []
+names_at las p _ = []
+
+-- the names that the marks of a source name, in source order: those that stand in the statements, and the `.La` labels
+abbrev pub marked_names : List Item → List (List ℕ)
+marked_names items = counted names_at las_in 0 first_place items
+
+-- the name of the symbol of this number, where there is one
+abbrev pub name_of_symbol : List Symbol → ℕ → Option (List ℕ)
+name_of_symbol symbols number = option_map (λ (s : Symbol). s.name) (slice_get symbols number)

@@ -25,7 +25,7 @@ pub use data::{data_of, text_of};
 pub use distances::first_far;
 pub use functions::functions_of;
 pub use known::first_unknown;
-pub use laws::{marks_name_symbols, words_decode};
+pub use laws::{marks_name_symbols, objects_are_whole, words_decode};
 pub use marks::marks_of;
 pub use names::{entry_twice_line, name_twice_line};
 pub use object::{Mark, Object};

@@ -116,23 +116,9 @@ fn push_marks<'a>(
             let number = label_or(label, find_number(numbers, 0, target.as_slice()));
             push_mark(marks, true, at, JAL, number)
         }
-        Statement::Call { name } => {
-            push_mark(
-                marks,
-                true,
-                at,
-                CALL_PLT,
-                named(numbers, 0, name.as_slice()),
-            )
-        }
-        Statement::Tail { name } => {
-            push_mark(
-                marks,
-                true,
-                at,
-                CALL_PLT,
-                named(numbers, 0, name.as_slice()),
-            )
+        Statement::Call { name } | Statement::Tail { name } => {
+            let number = named(numbers, 0, name.as_slice());
+            push_mark(marks, true, at, CALL_PLT, number)
         }
         Statement::Address { name, .. } => {
             let number = named(numbers, 0, name.as_slice());

@@ -1,5 +1,5 @@
 //! Which line of a source is refused, and the words of the first guest, which are from an independent program.
-use crate::{checked, data_of, text_of};
+use crate::{Mark, assemble, checked, data_of, text_of};
 use asm_text::{AsmFault, AsmRule};
 use std::alloc::Global;
 
@@ -85,4 +85,29 @@ fn writes_the_first_guest(rt: HostRuntime) {
     assert_eq!(rt; words.as_slice(), &wanted[..]);
     let data = data_of(rt.alloc(), items.as_slice()).expect(&rt, "data");
     assert_eq!(rt; data.len(), 0);
+}
+
+#[test]
+fn assembles_the_first_guest(rt: HostRuntime) {
+    let text = HELLO.as_bytes();
+    if text.len() > 67_108_864 {
+        return;
+    }
+    let object = assemble(rt.alloc(), text).expect(&rt, "object");
+    assert_eq!(rt; object.entry, 0);
+    let names = [(0x1_0000, 60, "start"), (0x1_003c, 8, "three")];
+    assert_eq!(rt; object.functions.len(), names.len());
+    for (function, (home, size, name)) in object.functions.as_slice().iter().zip(names) {
+        assert_eq!(rt; function.home, home);
+        assert_eq!(rt; function.size, size);
+        assert_eq!(rt; function.name.as_slice(), name.as_bytes());
+    }
+    assert_eq!(rt; object.symbols.len(), 3);
+    let call = Mark {
+        in_text: true,
+        at: 28,
+        kind: 17,
+        symbol: 2,
+    };
+    assert_eq!(rt; object.marks.as_slice(), &[call][..]);
 }

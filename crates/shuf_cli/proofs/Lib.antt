@@ -1,4 +1,10 @@
+pub mod Assembling
+pub mod Causes
+pub mod Commands
+pub mod Delivery
 pub mod Headline
 pub mod Loaded
-pub mod Outcome
 pub mod Making
+pub mod Outcome
+pub mod Readable
+pub mod Stored

@@ -1,6 +1,8 @@
 -- How what is due is delivered.
 use Rattle.std.specs.Prelude.{◌≡◌, ◌≢◌, ◌⊎◌, ℕ, List, Option, Some, None}
+use Rattle.sh_base.specs.declared.files.FileCall.{FileCall}
 use Rattle.sh_base.specs.Faults.{Rose}
+use Rattle.sh_base.specs.Held.{FileMap}
 use Rattle.sh_base.specs.Written.{Gains, GainsFront}
 use Rattle.shuf_cli.specs.declared.due.Due.{Due}
 use Rattle.shuf_cli.specs.declared.due.Done.{Done}
@@ -9,6 +11,15 @@ use Rattle.shuf_cli.specs.declared.due.Done.{Done}
 pub record SinkState : Type 0 where
   pub written : Option (List ℕ)
   pub faults : ℕ
+
+-- what files mean: what is held by name, told or not, and the calls that failed
+pub record FilesState : Type 0 where
+  pub held : Option FileMap
+  pub faults : List FileCall
+
+-- what is held stands
+abbrev pub HeldStands : FilesState → FilesState → Type 0
+HeldStands files files' = files'.held ≡ files.held
 
 -- a sink took the piece; where there is none it stands
 abbrev pub Took : Option (List ℕ) → SinkState → SinkState → Type 0
@@ -31,9 +42,10 @@ pub record Delivered (due : Due) (out out' report report' : SinkState) (done : D
   pub end : done.end ≡ due.end
   pub machine : done.machine ≡ due.machine
 
--- where memory is refused nothing is written
-pub record OutOfMemory (out out' report report' : SinkState) (done : Done) : Type 0 where
+-- where memory is refused nothing is written or stored
+pub record OutOfMemory (files files' : FilesState) (out out' report report' : SinkState) (done : Done) : Type 0 where
   pub status : done.status ≡ 14
+  pub held_stands : HeldStands files files'
   pub out_stands : out' ≡ out
   pub report_stands : report' ≡ report
   pub end : done.end ≡ None

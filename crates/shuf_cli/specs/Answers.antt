@@ -10,5 +10,5 @@ use Rattle.shuf_cli.specs.Headline.{World}
 -- what the command and the files make due was delivered, or memory was refused
 abbrev pub Answers : Option Command → List ℕ → World → Done → Type 0
 Answers command seed world done =
-    OutOfMemory world.out world.out' world.report world.report' done
-    ⊎ ((due : Due) × IsDue command seed world.held world.before world.now due × Delivered due world.out world.out' world.report world.report' done)
+    OutOfMemory world.files world.files' world.out world.out' world.report world.report' done
+    ⊎ ((due : Due) × IsDue command seed world.files world.files' due × Delivered due world.out world.out' world.report world.report' done)

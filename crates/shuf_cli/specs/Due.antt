@@ -1,15 +1,18 @@
--- What is due to each sink, by the command and by what its load answered.
+-- What is due to each sink, by the command and by what its file calls answered.
 use Rattle.std.specs.Prelude.{◌≡◌, ◌⊎◌, ℕ, ◌<◌, nat_lt, if◌then◌else◌, MatchBool, MatchOption, Option, Some, None, List, [], ◌++◌, length, codes}
-use Rattle.sh_base.specs.declared.files.FileCall.{FileCall}
-use Rattle.sh_base.specs.declared.files.FileWord.TheVariants.{Load}
+use Rattle.sh_base.specs.declared.files.FileWord.TheVariants.{Load, Store}
 use Rattle.sh_base.specs.Faults.{fault_count}
-use Rattle.sh_base.specs.Held.{FileMap, Loads}
+use Rattle.sh_base.specs.Held.{Loads, Stores, OthersStand}
 use Rattle.sh_types.specs.declared.runs.End.TheVariants.{Exit}
 use Rattle.sh_types.specs.Accepted.{mapped_by, loaded_image, refusal_of}
 use Rattle.sh_types.specs.Elf.{segments_of}
 use Rattle.sh_types.specs.Serial.{Schedule, serial_list}
 use Rattle.sh_types.specs.Thin.{thin_image}
-use Rattle.image_text.specs.Lines.{fault_line}
+use Rattle.asm_text.specs.declared.faults.LineFault.{LineFault}
+use Rattle.rv_asm.specs.Object.{object_of}
+use Rattle.rv_asm.specs.Passes.{fault_of}
+use Rattle.elf_write.specs.Written.{elf_file}
+use Rattle.image_text.specs.Lines.{fault_line, source_line}
 use Rattle.image_text.specs.Listing.{listing_of}
 use Rattle.shuf_machine.specs.declared.answers.Origin.{Origin}
 use Rattle.shuf_machine.specs.Past.{Past, guest_of}
@@ -18,8 +21,9 @@ use Rattle.hart_runner.specs.Built.{is_built}
 use Rattle.period_report.specs.declared.writer.Form.TheVariants.{Short}
 use Rattle.period_report.specs.Text.{report_text}
 use Rattle.shuf_cli.specs.declared.words.Command.{Command}
-use Rattle.shuf_cli.specs.declared.words.Command.TheVariants.{Run, Check}
+use Rattle.shuf_cli.specs.declared.words.Command.TheVariants.{Run, Check, Asm}
 use Rattle.shuf_cli.specs.declared.due.Due.{Due}
+use Rattle.shuf_cli.specs.Answer.{FilesState, HeldStands}
 
 -- the most bytes of a file
 abbrev pub file_limit : ℕ
@@ -31,6 +35,9 @@ usage_line = codes "shuffler: usage\n"
 unfoldable pub unreadable_line : List ℕ → List ℕ
 unreadable_line name = codes "shuffler: file " ++ name ++ codes " cannot be read\n"
 
+unfoldable pub unwritable_line : List ℕ → List ℕ
+unwritable_line name = codes "shuffler: file " ++ name ++ codes " cannot be written\n"
+
 unfoldable pub too_long_line : List ℕ → List ℕ
 too_long_line name = codes "shuffler: file " ++ name ++ codes " is longer than 16777216 bytes\n"
 
@@ -40,6 +47,10 @@ refused_line = codes "shuffler: refused: not built\n"
 -- a refusal: its line alone
 abbrev pub line_due : ℕ → List ℕ → Due
 line_due status line = record { out = None; report = Some line; status = status; end = None; machine = None }
+
+-- nothing at all
+abbrev pub nothing_due : Due
+nothing_due = record { out = None; report = None; status = 0; end = None; machine = None }
 
 -- the status of an exit
 abbrev pub exit_status : ℕ → ℕ
@@ -81,25 +92,58 @@ IsRunDue file seed due =
 abbrev pub file_word : Command → List ℕ
 file_word (Run name opts) = name
 file_word (Check name) = name
+file_word (Asm source target) = source
 
--- by an accepted file
-abbrev pub IsAcceptedDue : Command → List ℕ → List ℕ → Due → Type 0
-IsAcceptedDue (Run name opts) file seed due = MatchOption (thin_image file) (due ≡ line_due 12 refused_line) (λ image. IsRunDue file seed due)
-IsAcceptedDue (Check name) file seed due = due ≡ listing_due file
+-- a load of this name failed
+abbrev pub LoadRose : FilesState → FilesState → List ℕ → Type 0
+LoadRose files files' name = fault_count name Load files.faults < fault_count name Load files'.faults
+
+-- a store of this name failed
+abbrev pub StoreRose : FilesState → FilesState → List ℕ → Type 0
+StoreRose files files' name = fault_count name Store files.faults < fault_count name Store files'.faults
+
+-- a run of the file: its image is thin, or it is refused
+abbrev pub IsRunFileDue : (file seed : List ℕ) → Due → Type 0
+IsRunFileDue file seed due =
+    MatchOption (refusal_of file)
+    (MatchOption (thin_image file) (due ≡ line_due 12 refused_line) (λ image. IsRunDue file seed due))
+    (λ fault. due ≡ line_due 12 (fault_line fault))
+
+-- a check of the file
+abbrev pub IsCheckFileDue : List ℕ → Due → Type 0
+IsCheckFileDue file due = MatchOption (refusal_of file) (due ≡ listing_due file) (λ fault. due ≡ line_due 12 (fault_line fault))
+
+-- a store of these bytes: they are held, or the store failed
+abbrev pub IsStoreDue : (target bytes : List ℕ) → FilesState → FilesState → Due → Type 0
+IsStoreDue target bytes files files' due =
+    (Stores files.held files'.held target bytes × (due ≡ nothing_due))
+    ⊎ (OthersStand files.held files'.held target × StoreRose files files' target × (due ≡ line_due 11 (unwritable_line target)))
+
+-- an assembly of the source: its file is stored, or its first fault is due
+abbrev pub IsSourceDue : (target source : List ℕ) → FilesState → FilesState → Due → Type 0
+IsSourceDue target source files files' due =
+    MatchOption (fault_of source) (IsStoreDue target (elf_file (object_of source)) files files' due)
+    (λ (fault : LineFault). HeldStands files files' × (due ≡ line_due 12 (source_line fault.line fault.rule)))
+
+-- by the file that was loaded, within the limit
+abbrev pub IsContentDue : Command → (file seed : List ℕ) → FilesState → FilesState → Due → Type 0
+IsContentDue (Run name opts) file seed files files' due = HeldStands files files' × IsRunFileDue file seed due
+IsContentDue (Check name) file seed files files' due = HeldStands files files' × IsCheckFileDue file due
+IsContentDue (Asm source target) file seed files files' due = IsSourceDue target file files files' due
 
 -- by the file that was loaded
-abbrev pub IsFileDue : Command → List ℕ → List ℕ → Due → Type 0
-IsFileDue command file seed due =
-    MatchBool (nat_lt file_limit (length file)) (due ≡ line_due 11 (too_long_line (file_word command)))
-    (MatchOption (refusal_of file) (IsAcceptedDue command file seed due) (λ fault. due ≡ line_due 12 (fault_line fault)))
+abbrev pub IsFileDue : Command → (file seed : List ℕ) → FilesState → FilesState → Due → Type 0
+IsFileDue command file seed files files' due =
+    MatchBool (nat_lt file_limit (length file)) (HeldStands files files' × (due ≡ line_due 11 (too_long_line (file_word command))))
+    (IsContentDue command file seed files files' due)
 
 -- the load failed, or it answered this file
-abbrev pub IsLoadDue : Command → List ℕ → Option FileMap → List FileCall → List FileCall → Due → Type 0
-IsLoadDue command seed held before now due =
-    ((fault_count (file_word command) Load before < fault_count (file_word command) Load now) × (due ≡ line_due 11 (unreadable_line (file_word command))))
-    ⊎ ((file : List ℕ) × Loads held (file_word command) file_limit file × IsFileDue command file seed due)
+abbrev pub IsLoadDue : Command → List ℕ → FilesState → FilesState → Due → Type 0
+IsLoadDue command seed files files' due =
+    (HeldStands files files' × LoadRose files files' (file_word command) × (due ≡ line_due 11 (unreadable_line (file_word command))))
+    ⊎ ((file : List ℕ) × Loads files.held (file_word command) file_limit file × IsFileDue command file seed files files' due)
 
 -- what is due, by the command
-abbrev pub IsDue : Option Command → List ℕ → Option FileMap → List FileCall → List FileCall → Due → Type 0
-IsDue None seed held before now due = due ≡ line_due 10 usage_line
-IsDue (Some command) seed held before now due = IsLoadDue command seed held before now due
+abbrev pub IsDue : Option Command → List ℕ → FilesState → FilesState → Due → Type 0
+IsDue None seed files files' due = HeldStands files files' × (due ≡ line_due 10 usage_line)
+IsDue (Some command) seed files files' due = IsLoadDue command seed files files' due

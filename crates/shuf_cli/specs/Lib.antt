@@ -3,3 +3,4 @@ pub mod Answers
 pub mod Due
 pub mod Headline
 pub mod Words
+pub mod Written

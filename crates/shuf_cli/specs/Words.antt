@@ -4,7 +4,7 @@ use Rattle.std.specs.List.{starts_with}
 use Rattle.std.specs.Cmp.Lexicographic.{pointwise}
 use Rattle.std.specs.declared.alloc.Global.{Global}
 use Rattle.shuf_cli.specs.declared.words.Command.{Command}
-use Rattle.shuf_cli.specs.declared.words.Command.TheVariants.{Run, Check}
+use Rattle.shuf_cli.specs.declared.words.Command.TheVariants.{Run, Check, Asm}
 use Rattle.shuf_cli.specs.declared.words.Opts.{Opts}
 
 -- two texts are one
@@ -27,12 +27,20 @@ abbrev pub run_of : (verb file option : List ℕ) → Option Command
 run_of verb file option =
     if same verb (codes "run") && same option (codes "--serial") && is_file_word file then Some (Run file default_opts) else None
 
+-- `asm SRC OUT`
+abbrev pub asm_of : (source target : List ℕ) → Option Command
+asm_of source target = if is_file_word source && is_file_word target then Some (Asm source target) else None
+
+-- three words
+abbrev pub three_of : (verb first second : List ℕ) → Option Command
+three_of verb first second = if same verb (codes "asm") then asm_of first second else run_of verb first second
+
 -- `check FILE`
 abbrev pub check_of : (verb file : List ℕ) → Option Command
 check_of verb file = if same verb (codes "check") && is_file_word file then Some (Check file) else None
 
 -- the command, or none where the words are none
 abbrev pub command_of : List (List ℕ) → Option Command
-command_of (verb ∷ file ∷ option ∷ []) = run_of verb file option
+command_of (verb ∷ first ∷ second ∷ []) = three_of verb first second
 command_of (verb ∷ file ∷ []) = check_of verb file
 command_of _ = None

@@ -1,7 +1,10 @@
 //! The command line: words, commands and the top call.
 #![tactic(auto)]
 
+mod asm;
 mod due;
+mod guest;
+mod lines;
 mod main_call;
 mod make;
 mod top;

@@ -1,5 +1,4 @@
 //! The top call with workers.
-ghost use Rattle.std.specs.Prelude.{◌≡◌};
 ghost use Rattle.shuf_cli.specs.Words.{texts, command_of};
 ghost use Rattle.shuf_cli.specs.Headline.{Answered};
 
@@ -20,11 +19,9 @@ pub fn shuffler_main<R: Threads + Wait + Sync, F: Files, O: Sink, E: Sink, G: Ga
     seed: &[u8; 32],
     _gate: &G,
 ) -> Done
-    ensures held { F.held files.new ≡ F.held files.old }
     ensures answer { Answered (command_of (texts words.now)) seed.now (record {
-      held = F.held files.old;
-      before = F.faults files.old;
-      now = F.faults files.new;
+      files = record { held = F.held files.old; faults = F.faults files.old };
+      files' = record { held = F.held files.new; faults = F.faults files.new };
       out = record { written = O.written out.old; faults = O.faults out.old };
       out' = record { written = O.written out.new; faults = O.faults out.new };
       report = record { written = E.written report.old; faults = E.faults report.old };

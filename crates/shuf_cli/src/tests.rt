@@ -1,10 +1,12 @@
 //! The top call over files and sinks in memory. The guest writes `hi` and a line feed, and exits.
-use crate::{serial_command, shuffler_main};
+use crate::{Done, serial_command, shuffler_main};
 use sample_files::{HOME, Sample, file_of};
 use sh_base::{MemFiles, MemSink, NoGate};
 use sh_types::{Bytes, End, Event, Items, Name};
+use shuf_machine::Machine;
 use std::alloc::{AllocError, Global};
 use std::process::Abort;
+use std::sync::Wait;
 use std::test::Fail;
 use std::thread::Threads;
 
@@ -52,14 +54,24 @@ fn words_of(alloc: Global, words: &[&str]) -> Result<Vec<String>, AllocError> {
     Ok(all)
 }
 
-/// Files that hold these bytes as `a.elf`.
-fn files_of(rt: &impl Abort, alloc: Global, file: &[u8]) -> Result<MemFiles, AllocError> {
+/// Files that hold these bytes under this name. The call of this number fails, if there is a number.
+fn files_of(
+    rt: &impl Abort,
+    alloc: Global,
+    name: &str,
+    file: &[u8],
+    fails: Option<u64>,
+) -> Result<MemFiles, AllocError> {
     let mut names = Items::new(alloc);
-    names.push(Name::from_str(alloc, "a.elf")?)?;
+    names.push(Name::from_str(alloc, name)?)?;
     let mut contents = Items::new(alloc);
     contents.push(Bytes::from_slice(alloc, file)?)?;
+    let mut numbers = Items::new(alloc);
+    if let Some(number) = fails {
+        numbers.push(number)?;
+    }
     assert_eq!(rt; names.len(), contents.len());
-    Ok(MemFiles::new(alloc, names, contents, Items::new(alloc)))
+    Ok(MemFiles::new(alloc, names, contents, numbers))
 }
 
 /// A sink that fails at its first write, or at none.
@@ -69,6 +81,68 @@ fn sink_of(alloc: Global, fails: bool) -> Result<MemSink, AllocError> {
         numbers.push(0)?;
     }
     MemSink::new(alloc, 4096, numbers).map_err(|_| AllocError)
+}
+
+/// What came of a call: the answer, and what the sinks hold.
+#[derive(Drop)]
+struct Told {
+    done: Done,
+    out: Bytes,
+    report: Bytes,
+}
+
+fn with_sinks(
+    alloc: Global,
+    done: Done,
+    out: &MemSink,
+    report: &MemSink,
+) -> Result<Told, AllocError> {
+    Ok(Told {
+        done,
+        out: Bytes::from_slice(alloc, out.content())?,
+        report: Bytes::from_slice(alloc, report.content())?,
+    })
+}
+
+/// Does a command over the files. It has no contract, so that its callers do not carry that of the top call.
+fn call<R: Threads + Sync>(
+    rt: &R,
+    alloc: Global,
+    words: &[&str],
+    files: &mut MemFiles,
+    out_fails: bool,
+    report_fails: bool,
+) -> Result<Told, AllocError> {
+    let words = words_of(alloc, words)?;
+    let mut out = sink_of(alloc, out_fails)?;
+    let mut report = sink_of(alloc, report_fails)?;
+    let seed = [0; 32];
+    let done = serial_command(rt, alloc, &words, files, &mut out, &mut report, &seed);
+    with_sinks(alloc, done, &out, &report)
+}
+
+/// The same by the call with workers.
+fn call_main<R: Threads + Wait + Sync>(
+    rt: &R,
+    alloc: Global,
+    words: &[&str],
+    files: &mut MemFiles,
+) -> Result<Told, AllocError> {
+    let words = words_of(alloc, words)?;
+    let mut out = sink_of(alloc, false)?;
+    let mut report = sink_of(alloc, false)?;
+    let seed = [0; 32];
+    let done = shuffler_main(
+        rt,
+        alloc,
+        &words,
+        files,
+        &mut out,
+        &mut report,
+        &seed,
+        &NoGate,
+    );
+    with_sinks(alloc, done, &out, &report)
 }
 
 /// What must come of a call: the status, and what the sinks gain, where they fail or not.
@@ -119,6 +193,27 @@ fn report_wanted(alloc: Global, want: Want) -> Result<String, AllocError> {
     }
 }
 
+/// Compares what came of a call.
+fn compare(rt: &impl Abort, alloc: Global, told: &Told, want: Want) -> Result<(), Fail> {
+    assert_eq!(rt; told.done.status, want.status);
+    assert_eq!(rt; told.out.as_slice(), want.out.as_bytes());
+    let report = report_wanted(alloc, want)?;
+    assert_eq!(rt; told.report.as_slice(), report.as_bytes());
+    Ok(())
+}
+
+/// Does a command over the files, and compares.
+fn expect_over<R: Threads + Sync + Abort>(
+    rt: &R,
+    alloc: Global,
+    words: &[&str],
+    files: &mut MemFiles,
+    want: Want,
+) -> Result<(), Fail> {
+    let told = call(rt, alloc, words, files, want.out_fails, want.report_fails)?;
+    compare(rt, alloc, &told, want)
+}
+
 /// Does a command over the file `a.elf`, and compares.
 fn expect<R: Threads + Sync + Abort>(
     rt: &R,
@@ -127,17 +222,8 @@ fn expect<R: Threads + Sync + Abort>(
     file: &[u8],
     want: Want,
 ) -> Result<(), Fail> {
-    let mut files = files_of(rt, alloc, file)?;
-    let mut out = sink_of(alloc, want.out_fails)?;
-    let mut report = sink_of(alloc, want.report_fails)?;
-    let words = words_of(alloc, words)?;
-    let seed = [0; 32];
-    let done = serial_command(rt, alloc, &words, &mut files, &mut out, &mut report, &seed);
-    assert_eq!(rt; done.status, want.status);
-    assert_eq!(rt; out.content(), want.out.as_bytes());
-    let told = report_wanted(alloc, want)?;
-    assert_eq!(rt; report.content(), told.as_bytes());
-    Ok(())
+    let mut files = files_of(rt, alloc, "a.elf", file, None)?;
+    expect_over(rt, alloc, words, &mut files, want)
 }
 
 const RUN: [&str; 3] = ["run", "a.elf", "--serial"];
@@ -164,40 +250,59 @@ fn checks(rt: HostRuntime) -> Result<(), Fail> {
     expect(&rt, alloc, &CHECK, &guest(alloc, 17, 0)?, want)
 }
 
+/// Compares the journal of a machine that ran in three turns.
+fn compare_turns(rt: &impl Abort, machine: &Option<Machine>, counts: [u64; 3]) {
+    let events = counts.map(|count| Event::Run { hart: 0, count });
+    match machine {
+        None => assert!(rt; false, "a run gives its machine"),
+        Some(machine) => assert_eq!(rt; machine.journal(), events.as_slice()),
+    }
+}
+
 #[test]
 fn a_run_hands_out_its_machine(rt: HostRuntime) -> Result<(), Fail> {
     let alloc = rt.alloc();
-    let mut files = files_of(&rt, alloc, &guest(alloc, 17, 0)?)?;
-    let mut out = sink_of(alloc, false)?;
-    let mut report = sink_of(alloc, false)?;
-    let words = words_of(alloc, &RUN)?;
-    let seed = [0; 32];
-    let done = shuffler_main(
-        &rt,
-        alloc,
-        &words,
-        &mut files,
-        &mut out,
-        &mut report,
-        &seed,
-        &NoGate,
-    );
-    assert_eq!(rt; done.status, 0);
-    assert_eq!(rt; done.end, Some(End::Exit { code: 0 }));
-    assert_eq!(rt; out.content(), b"hi\n".as_slice());
-    let told = report_wanted(alloc, exits("hi\n", 17, 0))?;
-    assert_eq!(rt; report.content(), told.as_bytes());
-    let events = [13, 3, 1].map(|count| Event::Run { hart: 0, count });
-    match &done.machine {
-        None => assert!(rt; false, "a run gives its machine"),
-        Some(machine) => assert_eq!(rt; machine.journal(), events.as_slice()),
+    let mut files = files_of(&rt, alloc, "a.elf", &guest(alloc, 17, 0)?, None)?;
+    let told = call_main(&rt, alloc, &RUN, &mut files)?;
+    compare(&rt, alloc, &told, exits("hi\n", 17, 0))?;
+    assert_eq!(rt; told.done.end, Some(End::Exit { code: 0 }));
+    compare_turns(&rt, &told.done.machine, [13, 3, 1]);
+    Ok(())
+}
+
+/// The words of an assembly, and a source.
+const ASM: [&str; 3] = ["asm", "a.s", "b.elf"];
+
+const SOURCE: &str = ".entry start\n.func start\n li a7, 93\n ecall\n.endfunc\n";
+
+#[test]
+fn assembles(rt: HostRuntime) -> Result<(), Fail> {
+    let alloc = rt.alloc();
+    let mut files = files_of(&rt, alloc, "a.s", SOURCE.as_bytes(), None)?;
+    expect_over(&rt, alloc, &ASM, &mut files, with_status(0, "", ""))?;
+    match files.content("b.elf") {
+        None => assert!(rt; false, "the file is held"),
+        Some(file) => assert!(rt; file.starts_with(&[0x7f, b'E', b'L', b'F'])),
     }
     Ok(())
 }
 
+/// A source that has a fault, and a store that fails: the load is call 0.
+#[test]
+fn sources_that_are_not_stored(rt: HostRuntime) -> Result<(), Fail> {
+    let alloc = rt.alloc();
+    let mut files = files_of(&rt, alloc, "a.s", b".entry start\n", None)?;
+    let refused = "shuffler: refused: line 1 Entry\n";
+    expect_over(&rt, alloc, &ASM, &mut files, with_status(12, "", refused))?;
+    assert!(rt; files.content("b.elf").is_none());
+    let mut files = files_of(&rt, alloc, "a.s", SOURCE.as_bytes(), Some(1))?;
+    let unwritten = "shuffler: file b.elf cannot be written\n";
+    expect_over(&rt, alloc, &ASM, &mut files, with_status(11, "", unwritten))
+}
+
 #[test]
 fn words_that_are_no_command(rt: HostRuntime) -> Result<(), Fail> {
-    let lists: [&[&str]; 8] = [
+    let lists: [&[&str]; 11] = [
         &[],
         &["check"],
         &["check", "a.elf", "--serial"],
@@ -206,6 +311,9 @@ fn words_that_are_no_command(rt: HostRuntime) -> Result<(), Fail> {
         &["run", "a.elf", "--serial", "--serial"],
         &["run", "", "--serial"],
         &["run", "--a.elf", "--serial"],
+        &["asm", "a.s"],
+        &["asm", "--x", "b"],
+        &["asm", "a.s", "b", "c"],
     ];
     for words in lists {
         expect(

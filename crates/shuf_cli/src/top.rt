@@ -1,5 +1,4 @@
 //! The top call: all that the program does.
-ghost use Rattle.std.specs.Prelude.{◌≡◌};
 ghost use Rattle.shuf_cli.specs.Words.{texts, command_of};
 ghost use Rattle.shuf_cli.specs.Headline.{World, Answered};
 ghost use Rattle.shuf_cli.specs.Answers.{Answers};
@@ -23,11 +22,9 @@ fn answer_command<R: Threads + Sync, F: Files, O: Sink, E: Sink>(
     report: &mut E,
     seed: &[u8; 32],
 ) -> Done
-    ensures held { F.held files.new ≡ F.held files.old }
     ensures answer { Answers (command_of (texts words.now)) seed.now (record {
-      held = F.held files.old;
-      before = F.faults files.old;
-      now = F.faults files.new;
+      files = record { held = F.held files.old; faults = F.faults files.old };
+      files' = record { held = F.held files.new; faults = F.faults files.new };
       out = record { written = O.written out.old; faults = O.faults out.old };
       out' = record { written = O.written out.new; faults = O.faults out.new };
       report = record { written = E.written report.old; faults = E.faults report.old };
@@ -46,7 +43,8 @@ fn answer_command<R: Threads + Sync, F: Files, O: Sink, E: Sink>(
 
 /// Does a command: `words` are those of the command line, `seed` is that of the layouts. It loads from `files`. For a
 /// run it writes to `out` what the guest wrote and to `report` the report on the run; for a check it writes to `out`
-/// the list of the executable. Else it writes one line to `report`. A guest is run only where its image is thin, it
+/// the list of the executable; for an assembly it stores the executable in `files` and writes nothing. Else it writes
+/// one line to `report`. A guest is run only where its image is thin, it
 /// comes to an exit within 100,000 instructions and makes no other call of the environment before than write. It
 /// waits for nobody.
 pub fn serial_command<R: Threads + Sync, F: Files, O: Sink, E: Sink>(
@@ -58,11 +56,9 @@ pub fn serial_command<R: Threads + Sync, F: Files, O: Sink, E: Sink>(
     report: &mut E,
     seed: &[u8; 32],
 ) -> Done
-    ensures held { F.held files.new ≡ F.held files.old }
     ensures answer { Answered (command_of (texts words.now)) seed.now (record {
-      held = F.held files.old;
-      before = F.faults files.old;
-      now = F.faults files.new;
+      files = record { held = F.held files.old; faults = F.faults files.old };
+      files' = record { held = F.held files.new; faults = F.faults files.new };
       out = record { written = O.written out.old; faults = O.faults out.old };
       out' = record { written = O.written out.new; faults = O.faults out.new };
       report = record { written = E.written report.old; faults = E.faults report.old };

@@ -1,6 +1,6 @@
 //! The words of a command line.
 ghost use Rattle.std.specs.Prelude.{◌≡◌, IfOk, IsErrOf, IsSome, None, Some};
-ghost use Rattle.shuf_cli.specs.Words.{texts, is_file_word, default_opts, run_of, check_of, command_of};
+ghost use Rattle.shuf_cli.specs.Words.{texts, is_file_word, default_opts, run_of, asm_of, check_of, three_of, command_of};
 
 use sh_types::Name;
 use std::alloc::Global;
@@ -25,6 +25,7 @@ pub struct Opts {
 pub enum Command {
     Run { file: Name, opts: Opts },
     Check { file: Name },
+    Asm { source: Name, target: Name },
 }
 
 /// Why words are no command: memory was refused, or they have no meaning.
@@ -83,6 +84,34 @@ fn read_run(alloc: Global, verb: &str, file: &str, option: &str) -> Result<Comma
     })
 }
 
+/// `asm SRC OUT`.
+fn read_asm(alloc: Global, source: &str, target: &str) -> Result<Command, WordFault>
+    ensures usage { IsErrOf result WordFault.Usage → asm_of source.now target.now ≡ None }
+    ensures command { IfOk result (λ command. asm_of source.now target.now ≡ Some command) }
+    ensures memory { IsErrOf result WordFault.NoMemory → IsSome (asm_of source.now target.now) }
+{
+    if !names_file(source) || !names_file(target) {
+        return Err(WordFault::Usage);
+    }
+    Ok(Command::Asm {
+        source: named(alloc, source)?,
+        target: named(alloc, target)?,
+    })
+}
+
+/// Three words.
+fn read_three(alloc: Global, verb: &str, first: &str, second: &str) -> Result<Command, WordFault>
+    ensures usage { IsErrOf result WordFault.Usage → three_of verb.now first.now second.now ≡ None }
+    ensures command { IfOk result (λ command. three_of verb.now first.now second.now ≡ Some command) }
+    ensures memory { IsErrOf result WordFault.NoMemory → IsSome (three_of verb.now first.now second.now) }
+{
+    if verb == "asm" {
+        read_asm(alloc, first, second)
+    } else {
+        read_run(alloc, verb, first, second)
+    }
+}
+
 /// `check FILE`.
 fn read_check(alloc: Global, verb: &str, file: &str) -> Result<Command, WordFault>
     ensures usage { IsErrOf result WordFault.Usage → check_of verb.now file.now ≡ None }
@@ -97,14 +126,16 @@ fn read_check(alloc: Global, verb: &str, file: &str) -> Result<Command, WordFaul
     })
 }
 
-/// Reads the words of a command line: `run FILE --serial` or `check FILE`. All else is `Usage`.
+/// Reads the words of a command line: `run FILE --serial`, `check FILE` or `asm SRC OUT`. All else is `Usage`.
 pub fn read_words(alloc: Global, words: &[String]) -> Result<Command, WordFault>
     ensures usage { IsErrOf result WordFault.Usage → command_of (texts words.now) ≡ None }
     ensures command { IfOk result (λ command. command_of (texts words.now) ≡ Some command) }
     ensures memory { IsErrOf result WordFault.NoMemory → IsSome (command_of (texts words.now)) }
 {
     match words {
-        [verb, file, option] => read_run(alloc, verb.as_str(), file.as_str(), option.as_str()),
+        [verb, first, second] => {
+            read_three(alloc, verb.as_str(), first.as_str(), second.as_str())
+        }
         [verb, file] => read_check(alloc, verb.as_str(), file.as_str()),
         _ => Err(WordFault::Usage),
     }

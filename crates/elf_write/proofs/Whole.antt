@@ -1,0 +1,91 @@
+-- The object of a source without a fault can be written.
+use Rattle.std.proofs.Common.{◌≡◌, ℕ, zero, suc, ◌+◌, ◌-◌, ◌^◌, ◌<◌, ◌≤◌, Bool, true, false, cond, List, [], ◌∷◌, length, map, get_or, refl, sym, subst, ◌∙◌, arith}
+use Rattle.std.specs.Prelude.{filter}
+use Rattle.std.specs.List.{All}
+use Rattle.std.specs.List.Sorted.{IsStrictlyIncreasing}
+use Rattle.std.proofs.lemmas.List.{length-append}
+use Rattle.std.proofs.lemmas.List.Elements.{All-filter, All-map, filter_passes}
+use Rattle.sh_types.specs.declared.elf.Symbol.{Symbol}
+use Rattle.asm_text.specs.declared.statements.Item.{Item}
+use Rattle.rv_asm.specs.declared.object.Object.{Object}
+use Rattle.rv_asm.specs.declared.object.Mark.{Mark}
+use Rattle.rv_asm.specs.Whole.{text_bytes, IsInside, AreRising, names_size, IsWhole}
+use Rattle.elf_write.specs.Parts.{is_in, marks_in, string_table, names_in, text_part, data_part}
+use Rattle.elf_write.specs.Writable.{IsMark, IsWritable, marked}
+
+-- ---- sizes
+
+text_size : (object : Object) → (text_part object).size ≡ text_bytes object
+unfolding text_part
+text_size object = refl
+
+data_size : (object : Object) → (data_part object).size ≡ length object.bytes
+unfolding data_part
+data_size object = refl
+
+table_size : (symbols : List Symbol) → length (string_table (names_in symbols)) ≡ names_size symbols
+unfolding string_table names_size
+table_size [] = refl
+table_size (s ∷ symbols) =
+    let rest = table_size symbols in
+    simp length-append (omega arith)
+
+-- ---- marks
+
+is_mark : (object : Object) (m : Mark) → IsInside object m → m.symbol < length object.symbols → IsMark object m
+unfolding text_part data_part
+is_mark object m inside symbol = record { inside = inside; symbol = symbol }
+
+rises_none : IsStrictlyIncreasing []
+rises_none k inside = absurd (omega arith)
+
+-- a number before others that rise, each above it
+rises_more : (x : ℕ) (xs : List ℕ) → All (λ y. x < y) xs → IsStrictlyIncreasing xs → IsStrictlyIncreasing (x ∷ xs)
+rises_more x xs above rises zero inside = above 0 0 (omega arith)
+rises_more x xs above rises (suc k) inside =
+    let next : suc k + 1 ≡ suc (k + 1) = omega arith in
+    subst (λ n. get_or xs k 0 < get_or (x ∷ xs) n 0) (sym next) (rises k (omega arith))
+
+same_part : (in_text a b : Bool) (m n : Mark) → m.in_text ≡ a → n.in_text ≡ b → is_in in_text m ≡ true → is_in in_text n ≡ true → m.in_text ≡ n.in_text
+same_part true a b m n ma nb x y = x ∙ sym y
+same_part false true b m n ma nb x y = cc
+same_part false false true m n ma nb x y = cc
+same_part false false false m n ma nb x y = ma ∙ sym nb
+
+unfoldable places : List Mark → List ℕ
+places marks = map (λ (m : Mark). m.at) marks
+
+above : (in_text : Bool) (m : Mark) (ms : List Mark) → is_in in_text m ≡ true → All (λ (n : Mark). m.in_text ≡ n.in_text → m.at < n.at) ms → All (λ y. m.at < y) (places (filter (is_in in_text) ms))
+unfolding places
+above in_text m ms here later =
+    let rest = filter (is_in in_text) ms in
+    let all = All-filter (is_in in_text) (λ (n : Mark). m.in_text ≡ n.in_text → m.at < n.at) ms later in
+    let passes = filter_passes (is_in in_text) ms in
+    All-map (λ y. m.at < y) (λ (n : Mark). n.at) rest (λ k d lt. let n = get_or rest k d in all k d lt (same_part in_text m.in_text n.in_text m n refl refl here (passes k d lt)))
+
+kept : (b : Bool) (m : Mark) (ms : List Mark) → (b ≡ true → All (λ y. m.at < y) (places ms)) → IsStrictlyIncreasing (places ms) → IsStrictlyIncreasing (places (cond b (m ∷ ms) ms))
+unfolding places
+kept true m ms more rises = rises_more m.at (map (λ (n : Mark). n.at) ms) (more refl) rises
+kept false m ms more rises = rises
+
+marks_rise : (in_text : Bool) (marks : List Mark) → AreRising marks → IsStrictlyIncreasing (places (filter (is_in in_text) marks))
+unfolding AreRising places
+marks_rise in_text [] rising = rises_none
+marks_rise in_text (m ∷ ms) rising =
+    kept (is_in in_text m) m (filter (is_in in_text) ms) (λ here. above in_text m ms here rising.0) (marks_rise in_text ms rising.1)
+
+marked_rises : (in_text : Bool) (marks : List Mark) → AreRising marks → IsStrictlyIncreasing (marked in_text marks)
+unfolding marked marks_in places
+marked_rises in_text marks rising = marks_rise in_text marks rising
+
+pub writable : (items : List Item) (object : Object) → IsWhole items object → IsWritable object
+writable items object w =
+    record {
+      text = subst (λ n. n ≤ 67108864) (sym (text_size object)) w.text;
+      data_size = subst (λ n. n ≤ 67108864) (sym (data_size object)) w.bytes;
+      names = subst (λ n. n < 2 ^ 32 - 1) (sym (table_size object.symbols)) w.names;
+      entry = w.entry;
+      marks = λ k d lt. is_mark object (get_or object.marks k d) (w.inside k d lt) (w.symbols k d lt);
+      text_rises = marked_rises true object.marks w.rising;
+      data_rises = marked_rises false object.marks w.rising;
+    }
