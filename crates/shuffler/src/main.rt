@@ -5,6 +5,7 @@ use sh_base::{NoGate, RealFiles, RealSink, Sink};
 use shuf_cli::shuffler_main;
 use std::alloc::AllocError;
 use std::env;
+use std::io::ErrorKind;
 use std::process::ExitCode;
 use std::random::RandomSource;
 
@@ -17,6 +18,7 @@ const NO_MEMORY: u8 = 14;
 fn words_of(rt: &HostRuntime) -> Result<Vec<String>, AllocError> {
     match env::args(rt) {
         Ok(args) => args.skip(1).collect(rt.alloc()),
+        Err(error) if error.kind() == ErrorKind::OutOfMemory => Err(AllocError),
         Err(_) => Ok(Vec::new(rt.alloc())),
     }
 }
