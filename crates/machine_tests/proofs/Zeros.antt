@@ -1,7 +1,6 @@
 -- Ranges of a memory of zeros that has no return word.
-use Rattle.std.proofs.Common.{◌≡◌, ℕ, zero, suc, ◌%◌, ◌*◌, ◌^◌, true, false, Option, Some, None, List, [], ◌∷◌, refl, ap}
-use Rattle.std.proofs.Math.Nat.{zero-div}
-use Rattle.std.specs.Prelude.{IsNone, IsTrue, ◌↔◌, is_some, unwrap_or}
+use Rattle.std.proofs.Common.{◌≡◌, ℕ, zero, suc, true, false, Option, Some, None, List, refl}
+use Rattle.std.specs.Prelude.{IsNone, IsTrue, ◌↔◌, is_some}
 use Rattle.sh_types.specs.Memory.{both_bytes, bytes_from}
 
 both_some : (b : ℕ) (rest : Option (List ℕ)) → is_some rest ≡ true → is_some (both_bytes (Some b) rest) ≡ true
@@ -16,8 +15,3 @@ all_told (suc n) a = both_some _ _ (all_told n (suc a))
 -- no range holds a return word
 pub holds_none : (n a : ℕ) → IsTrue false ↔ IsNone (bytes_from (λ w. Some 0) a n)
 holds_none n a = let told = all_told n a in (λ x. absurd (cc), λ x. absurd (cc))
-
--- a byte is zero
-pub one_zero : (n a : ℕ) → n ≡ 1 → unwrap_or (bytes_from (λ w. Some 0) a n) [] ≡ 0 ∷ []
-unfolding bytes_from
-one_zero n a e = rw e (ap (λ b. b % 2 ^ 8 ∷ []) (zero-div (2 ^ (8 * (a % 8)))))

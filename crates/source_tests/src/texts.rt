@@ -1,12 +1,14 @@
 //! How many statements texts have, and which of their lines is refused.
-use crate::{AsmRule, LineFault, read};
+use crate::assembling::source_of;
+use asm_text::{AsmRule, LineFault};
+use std::test::Fail;
 
 fn fault(line: u32, rule: AsmRule) -> Option<LineFault> {
     Some(LineFault { line, rule })
 }
 
 #[test]
-fn reads_texts(rt: HostRuntime) {
+fn reads_texts(rt: HostRuntime) -> Result<(), Fail> {
     let table = [
         ("", 0, None),
         ("\n\n", 0, None),
@@ -32,9 +34,9 @@ fn reads_texts(rt: HostRuntime) {
         ("ret a0 ; \u{1}", 0, fault(1, AsmRule::Text)),
     ];
     for (text, count, fault) in table {
-        assert!(rt; text.len() < 1000);
-        let source = read(rt.alloc(), text.as_bytes()).expect(&rt, "read");
+        let source = source_of(rt.alloc(), text)?;
         assert_eq!(rt; source.items.len(), count, "{text}");
         assert_eq!(rt; source.fault, fault, "{text}");
     }
+    Ok(())
 }
