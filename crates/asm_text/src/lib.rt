@@ -19,6 +19,3 @@ pub use faults::{AsmFault, AsmRule, LineFault};
 pub use laws::statements_lie_in_their_text;
 pub use lines::{Source, read};
 pub use statements::{Item, Statement};
-
-#[cfg(test)]
-mod tests;

@@ -8,6 +8,3 @@ mod strings;
 mod table;
 
 pub use read::symbols;
-
-#[cfg(test)]
-mod tests;

@@ -1,4 +1,5 @@
-//! Tests of the loader over whole files: for each rule a file that fails it and passes all before it.
+//! Tests of the loader over whole files: for each rule a file that fails it and passes all before it, and what is loaded
+//! of files that are accepted.
 #![tactic(auto)]
 
 #[cfg(test)]
@@ -7,6 +8,10 @@ mod cases;
 mod functions;
 #[cfg(test)]
 mod headers;
+#[cfg(test)]
+mod images;
+#[cfg(test)]
+mod lines;
 pub mod patches;
 #[cfg(test)]
 mod sections;

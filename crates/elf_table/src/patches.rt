@@ -26,7 +26,7 @@ pub const SECTIONS: usize = 0x2098;
 pub const HUGE: u64 = u64::MAX;
 
 /// `start` stores three bytes, calls `three` and makes the calls 64 and 93; `three` sets a2.
-const CODE: [u32; 17] = [
+pub const CODE: [u32; 17] = [
     0xff01_0113,
     0x0680_0293,
     0x0051_0023,

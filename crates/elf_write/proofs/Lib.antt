@@ -1,5 +1,4 @@
 pub mod Bounds
-pub mod Hello
 pub mod Laying
 pub mod Little
 pub mod Marks

@@ -17,6 +17,3 @@ pub use laws::{
     files_name_their_symbols, files_say_where,
 };
 pub use write::write_elf;
-
-#[cfg(test)]
-mod tests;

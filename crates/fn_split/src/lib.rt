@@ -9,6 +9,3 @@ mod refusal;
 mod starts;
 
 pub use functions::split;
-
-#[cfg(test)]
-mod tests;

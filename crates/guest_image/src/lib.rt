@@ -17,6 +17,3 @@ mod words;
 
 pub use load::load_image;
 pub use memory::mapped_bytes;
-
-#[cfg(test)]
-mod tests;

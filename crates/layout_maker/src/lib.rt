@@ -7,8 +7,6 @@ mod laws;
 mod make;
 mod order;
 mod spots;
-#[cfg(test)]
-mod tests;
 
 pub use laws::{
     gaps_are_within_shares, keys_are_small, layouts_are_well_placed, orders_are_permutations,

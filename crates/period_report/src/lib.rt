@@ -4,8 +4,6 @@
 mod cells;
 mod lines;
 mod sizes;
-#[cfg(test)]
-mod tests;
 mod writer;
 
 pub use writer::{Form, report};

@@ -26,17 +26,3 @@ pub fn ciphers_open()
     ensures opens { (key slot address : ℕ) → key < 2 ^ 64 → address < 2 ^ 64 → unseal_of key slot (seal_of key slot address) ≡ address }
     ensures seals { (key slot word : ℕ) → key < 2 ^ 64 → word < 2 ^ 64 → seal_of key slot (unseal_of key slot word) ≡ word }
 {}
-
-#[cfg(test)]
-mod tests {
-    use super::{seal, unseal};
-
-    #[test]
-    fn a_known_word(rt: HostRuntime) {
-        let key = 0x8d48_5751_7c59_41da;
-        let slot = 0x3fff_eff8;
-        let sealed = seal(key, slot, 0x476b_ead4);
-        assert_eq!(rt; sealed, 0x46a4_2ba8_9d99_5587);
-        assert_eq!(rt; unseal(key, slot, sealed), 0x476b_ead4);
-    }
-}

@@ -36,6 +36,3 @@ pub use symbols::{Scoped, all_numbers, push_data_labels, push_functions, push_in
 pub use targets::{Target, last_place};
 pub use words::{Sequence, instrs};
 pub use writing::{Unwritten, push_words};
-
-#[cfg(test)]
-mod tests;

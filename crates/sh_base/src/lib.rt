@@ -16,6 +16,3 @@ pub use mem_sink::MemSink;
 pub use real_files::RealFiles;
 pub use real_sink::RealSink;
 pub use sinks::{Sink, SinkFailed};
-
-#[cfg(test)]
-mod tests;

@@ -15,6 +15,3 @@ pub use main_call::shuffler_main;
 pub use make::make_due;
 pub use top::serial_command;
 pub use words::{Command, Opts, WordFault, read_words};
-
-#[cfg(test)]
-mod tests;

@@ -1,0 +1,99 @@
+//! The copy of the first guest under the seed of zeros. Its words are from an independent program.
+ghost use Rattle.std.specs.Prelude.{◌≡◌, Some, IfOk, IfSome};
+ghost use Rattle.sh_types.specs.Image.{sizes_of};
+ghost use Rattle.sh_types.specs.Runnable.{IsRunnable};
+ghost use Rattle.sh_types.specs.Thin.{thin_image};
+
+use code_copier::copy;
+use guest_image::load_image;
+use layout_maker::{layouts_are_well_placed, make_layout, recent_cells_are_counted};
+use sh_types::{CodeCopy, Image, LoadFault, NoMemory};
+use std::alloc::{AllocError, Global};
+use std::thread::Threads;
+use thin_image::classify;
+use thin_law::thin_images_are_fine;
+
+#[tactic(auto, unfolding(sh_types::specs::Image::sizes_of))]
+fn sizes(alloc: Global, image: &Image) -> Result<Vec<u32>, AllocError>
+    ensures { IfOk result (λ sizes. sizes.items ≡ sizes_of image.now) }
+{
+    image
+        .functions
+        .as_slice()
+        .iter()
+        .map(|function| function.size)
+        .collect(alloc)
+}
+
+/// The copy of the first layout of the file's image.
+pub fn first_copy(alloc: Global, _file: &[u8], image: &Image) -> Result<CodeCopy, NoMemory>
+    requires thin { thin_image _file.now ≡ Some image.now }
+    requires runnable { IsRunnable image.now }
+{
+    thin_images_are_fine();
+    layouts_are_well_placed();
+    recent_cells_are_counted();
+    let sizes = sizes(alloc, image)?;
+    let layout = make_layout(alloc, &sizes, &[0; 32], 1, &[])?;
+    copy(alloc, image, &layout)
+}
+
+/// The image of the file with these bytes; None where the file is refused or is not thin.
+#[tactic(auto, unfolding(sh_types::specs::Thin::thin_image))]
+fn read_thin<R: Threads + Sync>(
+    rt: &R,
+    alloc: Global,
+    bytes: &[u8],
+) -> Result<Option<Image>, NoMemory>
+    ensures is { IfOk result (λ found. found ≡ thin_image bytes.now) }
+    ensures runnable { IfOk result (λ found. IfSome found IsRunnable) }
+{
+    match load_image(rt, alloc, bytes) {
+        Ok(image) => classify(alloc, image),
+        Err(LoadFault::NoMemory) => Err(NoMemory),
+        Err(_) => Ok(None),
+    }
+}
+
+/// The same of a file; None where it is not thin.
+pub fn copy_of_file<R: Threads + Sync>(
+    rt: &R,
+    alloc: Global,
+    file: &[u8],
+) -> Result<Option<CodeCopy>, NoMemory> {
+    match read_thin(rt, alloc, file)? {
+        Some(image) => Ok(Some(first_copy(alloc, file, &image)?)),
+        None => Ok(None),
+    }
+}
+
+#[cfg(test)]
+mod tests {
+    use super::{CodeCopy, copy_of_file};
+    use code_eraser::erase;
+    use elf_table::patches::first_file;
+    use std::test::Fail;
+
+    fn word_in(copy: &CodeCopy, address: u64) -> Option<u32> {
+        let distance = address.checked_sub(copy.start)?;
+        copy.words
+            .as_slice()
+            .get((distance / 4) as usize)
+            .copied()
+    }
+
+    #[test]
+    fn the_first_copy(rt: HostRuntime) -> Result<(), Fail> {
+        let file = first_file(rt.alloc())?;
+        let found = copy_of_file(&rt, rt.alloc(), &file)?;
+        let mut copy = found.expect(&rt, "the file is thin");
+        assert_eq!(rt; copy.start, 0x4760_0000);
+        assert_eq!(rt; copy.words.len(), 262_144);
+        assert_eq!(rt; word_in(&copy, 0x476b_ead0), Some(0x9a58_70ef), "the call");
+        assert_eq!(rt; word_in(&copy, 0x476b_eaf0), Some(0), "behind the function");
+        assert_eq!(rt; word_in(&copy, 0x4764_6474), Some(0x0030_0613));
+        erase(&mut copy);
+        assert!(rt; copy.words.as_slice().iter().all(|word| *word == 0));
+        Ok(())
+    }
+}

@@ -1,0 +1,76 @@
+//! Runs of the first guest, which writes `hi` and a line feed, and of guests with another word in its place.
+use crate::calls::{Fails, call_main, files_of};
+use crate::commands::{Want, expect, patched};
+use elf_table::patches::first_file;
+use sh_types::{End, Event};
+use std::test::Fail;
+
+const RUN: [&str; 3] = ["run", "a.elf", "--serial"];
+
+/// The report under the seed of zeros, up to what the run came to.
+const HEAD_LINES: &str = "shuffler 1
+seed 0000000000000000000000000000000000000000000000000000000000000000
+period 100000
+image functions 2 rows 0 code 68
+layout 1 at 0 cell 118
+harts 1
+";
+
+/// Where in the file the word is, the word, and what comes of it: the status, the output, and the last lines.
+#[test]
+fn guests_that_exit(rt: HostRuntime) -> Result<(), Fail> {
+    let table = [
+        ((0x1030, 4, 0x0070_0513), 1, "hi\n", "instructions 17\nend exit 7\n"),
+        // 256, of which the low byte counts
+        ((0x1030, 4, 0x1000_0513), 0, "hi\n", "instructions 17\nend exit 0\n"),
+        // at once
+        ((0x1028, 4, 0x05d0_0893), 1, "", "instructions 14\nend exit 1\n"),
+    ];
+    for (one, status, out, last) in table {
+        let report = format!(in rt.alloc(); "{HEAD_LINES}{last}")?;
+        let want = (status, out, report.as_str());
+        let file = patched(rt.alloc(), one)?;
+        expect(&rt, rt.alloc(), &RUN, &file, Fails::Neither, want)?;
+    }
+    Ok(())
+}
+
+/// A call with another number, and no exit.
+#[test]
+fn guests_that_are_not_run(rt: HostRuntime) -> Result<(), Fail> {
+    let want: Want = (12, "", "shuffler: refused: not built\n");
+    for one in [(0x1028, 4, 0x05e0_0893), (0x1038, 4, 0x0000_0013)] {
+        let file = patched(rt.alloc(), one)?;
+        expect(&rt, rt.alloc(), &RUN, &file, Fails::Neither, want)?;
+    }
+    Ok(())
+}
+
+/// A write is made also where the guest wrote nothing. Where the report fails the output is written.
+#[test]
+fn sinks_that_fail(rt: HostRuntime) -> Result<(), Fail> {
+    let table = [
+        ((0, 0, 0), Fails::Out, ""),
+        ((0x1028, 4, 0x05d0_0893), Fails::Out, ""),
+        ((0, 0, 0), Fails::Report, "hi\n"),
+    ];
+    for (one, fails, out) in table {
+        let file = patched(rt.alloc(), one)?;
+        expect(&rt, rt.alloc(), &RUN, &file, fails, (13, out, ""))?;
+    }
+    Ok(())
+}
+
+#[test]
+fn a_run_hands_out_its_machine(rt: HostRuntime) -> Result<(), Fail> {
+    let file = first_file(rt.alloc())?;
+    let mut files = files_of(rt.alloc(), "a.elf", &file, None)?;
+    let told = call_main(&rt, rt.alloc(), &RUN, &mut files)?;
+    assert_eq!(rt; told.done.status, 0);
+    assert_eq!(rt; told.out.as_slice(), b"hi\n".as_slice());
+    assert_eq!(rt; told.done.end, Some(End::Exit { code: 0 }));
+    let machine = told.done.machine.expect(&rt, "a machine");
+    let turns = [13, 3, 1].map(|count| Event::Run { hart: 0, count });
+    assert_eq!(rt; machine.journal(), turns.as_slice());
+    Ok(())
+}
