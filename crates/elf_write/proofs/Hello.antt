@@ -2,23 +2,14 @@
 use Rattle.std.proofs.Common.{◌≡◌, true, false, List, [], ◌∷◌, length, sym, subst, arith}
 use Rattle.std.specs.Prelude.{codes}
 use Rattle.std.specs.List.{All, concat}
-use Rattle.std.specs.List.Sorted.{IsStrictlyIncreasing}
 use Rattle.std.proofs.lemmas.List.Elements.{All-cons}
 use Rattle.rv_asm.specs.declared.object.Object.{Object}
 use Rattle.rv_asm.specs.declared.object.Mark.{Mark}
-use Rattle.elf_write.specs.Parts.{marks_in, string_table, names_in, text_part, data_part}
-use Rattle.elf_write.specs.Writable.{IsMark, IsWritable, marked}
+use Rattle.elf_write.specs.Parts.{string_table, names_in, text_part, data_part}
+use Rattle.elf_write.specs.Writable.{IsMark, IsWritable}
 
 abbrev pub the_mark : Mark
 the_mark = record { in_text = true; at = 28; kind = 17; symbol = 2 }
-
-text_rises : IsStrictlyIncreasing (marked true (the_mark ∷ []))
-unfolding marked marks_in
-text_rises k short = absurd (omega arith)
-
-data_rises : IsStrictlyIncreasing (marked false (the_mark ∷ []))
-unfolding marked marks_in
-data_rises k short = absurd (omega arith)
 
 pub writable : (object : Object) → length (concat object.words) ≡ 17 → object.bytes ≡ [] → object.entry ≡ 0 → length object.functions ≡ 2 → length object.symbols ≡ 3 → names_in object.symbols ≡ [] ∷ codes "start" ∷ codes "three" ∷ [] → object.marks ≡ the_mark ∷ [] → IsWritable object
 unfolding text_part data_part string_table
@@ -31,6 +22,5 @@ writable object words bytes entry functions count names marks =
       names = rw names (omega arith);
       entry = omega arith;
       marks = subst (λ (marks : List Mark). All (IsMark object) marks) (sym marks) all;
-      text_rises = rw marks text_rises;
-      data_rises = rw marks data_rises;
+      few = rw marks (omega arith);
     }
