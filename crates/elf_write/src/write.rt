@@ -9,7 +9,7 @@ use crate::code::put_code;
 use crate::fields::fill;
 use crate::headers::put_front;
 use crate::parts::{Parts, laid_out};
-use crate::records::put_records;
+use crate::records::{marks_by_place, put_records};
 use crate::sections::{put_sections, sections};
 use crate::strings::{put_section_names, put_strings};
 use crate::symbols::put_symbols;
@@ -38,7 +38,12 @@ fn put_memory(file: &mut Vec<u8>, object: &Object, parts: &Parts) -> Result<(), 
 
 /// Appends the records.
 #[tactic(auto, using(crate::proofs::Marks::placed_marks), unfolding(crate::specs::Written::placed))]
-fn put_marks(file: &mut Vec<u8>, object: &Object, parts: &Parts) -> Result<(), AllocError>
+fn put_marks(
+    alloc: Global,
+    file: &mut Vec<u8>,
+    object: &Object,
+    parts: &Parts,
+) -> Result<(), AllocError>
     requires writable { IsWritable object.now }
     requires text_near { parts.now.text_bytes.at < 2 ^ 60 }
     requires data_near { parts.now.data_bytes.at < 2 ^ 60 }
@@ -46,9 +51,11 @@ fn put_marks(file: &mut Vec<u8>, object: &Object, parts: &Parts) -> Result<(), A
 {
     let marks = object.marks.as_slice();
     fill(file, parts.text_records.at)?;
-    put_records(file, parts.text_bytes.home(), true, marks)?;
+    let in_text = marks_by_place(alloc, true, marks)?;
+    put_records(file, parts.text_bytes.home(), &in_text)?;
     fill(file, parts.data_records.at)?;
-    put_records(file, parts.data_bytes.home(), false, marks)
+    let in_data = marks_by_place(alloc, false, marks)?;
+    put_records(file, parts.data_bytes.home(), &in_data)
 }
 
 /// Appends the symbols, their names and the names of the sections.
@@ -88,7 +95,7 @@ fn file(alloc: Global, object: &Object) -> Result<Vec<u8>, AllocError>
     let mut file = Vec::with_capacity(alloc, size as usize)?;
     put_front(&mut file, entry_home(object), &parts)?;
     put_memory(&mut file, object, &parts)?;
-    put_marks(&mut file, object, &parts)?;
+    put_marks(alloc, &mut file, object, &parts)?;
     put_names(&mut file, object, &parts)?;
     put_heads(&mut file, &parts, object.symbols.len() as u32)?;
     Ok(file)

@@ -1,6 +1,7 @@
 use Rattle.std.proofs.Common.{◌≡◌, ◌+◌, ◌≤◌, length, drop}
-use Rattle.elf_write.specs.Parts.{marks_in}
+use Rattle.std.specs.Prelude.{filter}
+use Rattle.elf_write.specs.Parts.{is_in}
 use Rattle.elf_write.proofs.parts.mark_count.Given as goal
 
 abbrev pub invariant-loop-mark : goal.invariant-loop-mark
-invariant-loop-mark l = (l.count + length (marks_in l.in_text (drop l.mark-index l.marks)) ≡ length (marks_in l.in_text l.marks)) × (l.count ≤ l.mark-index)
+invariant-loop-mark l = (l.count + length (filter (is_in l.in_text) (drop l.mark-index l.marks)) ≡ length (filter (is_in l.in_text) l.marks)) × (l.count ≤ l.mark-index)
