@@ -12,7 +12,13 @@ fn lines_on_refusals(rt: HostRuntime) -> Result<(), Fail> {
     };
     let table = [
         (LoadFault::Elf { rule }, "elf Kind2"),
-        (LoadFault::Limit { kind, value: 524_292 }, "limit Code 524292"),
+        (
+            LoadFault::Limit {
+                kind,
+                value: 524_292,
+            },
+            "limit Code 524292",
+        ),
         (split, "split Overlap at 0x10038"),
     ];
     for (fault, what) in table {

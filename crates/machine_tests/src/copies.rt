@@ -76,10 +76,7 @@ mod tests {
 
     fn word_in(copy: &CodeCopy, address: u64) -> Option<u32> {
         let distance = address.checked_sub(copy.start)?;
-        copy.words
-            .as_slice()
-            .get((distance / 4) as usize)
-            .copied()
+        copy.words.as_slice().get((distance / 4) as usize).copied()
     }
 
     #[test]

@@ -15,8 +15,14 @@ fn first(alloc: Global) -> Result<Layout, NoMemory> {
 fn the_first_layout(rt: HostRuntime) -> Result<(), Fail> {
     let layout = first(rt.alloc())?;
     assert_eq!(rt; layout.cell, 118);
-    assert_eq!(rt; layout.places.as_slice(), [0x476b_eab4, 0x4764_6474].as_slice());
-    assert_eq!(rt; layout.keys.as_slice().first(), Some(&0x8d48_5751_7c59_41da));
+    assert_eq!(rt;
+        layout.places.as_slice(),
+        [0x476b_eab4, 0x4764_6474].as_slice()
+    );
+    assert_eq!(rt;
+        layout.keys.as_slice().first(),
+        Some(&0x8d48_5751_7c59_41da)
+    );
     Ok(())
 }
 

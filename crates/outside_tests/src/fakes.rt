@@ -34,7 +34,11 @@ fn a_sink_that_is_full(rt: HostRuntime) -> Result<(), Fail> {
     let mut fails = Items::new(rt.alloc());
     fails.push(1)?;
     let mut sink = MemSink::new(rt.alloc(), 4, fails).map_err(|_| AllocError)?;
-    for (piece, want) in [("ab", Ok(())), ("cd", Err(SinkFailed)), ("cde", Err(SinkFailed))] {
+    for (piece, want) in [
+        ("ab", Ok(())),
+        ("cd", Err(SinkFailed)),
+        ("cde", Err(SinkFailed)),
+    ] {
         assert_eq!(rt; sink.write(piece.as_bytes()), want, "{piece}");
     }
     assert_eq!(rt; sink.content(), b"abcd".as_slice());

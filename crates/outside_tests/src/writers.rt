@@ -42,7 +42,11 @@ mod tests {
     #[test]
     fn a_writer_that_halts(rt: HostRuntime) {
         let mut sink = RealSink::new(Halting { turn: 0 });
-        assert_eq!(rt; sink.write(b"ab"), Ok(()), "an interrupted write is tried again");
+        assert_eq!(rt;
+            sink.write(b"ab"),
+            Ok(()),
+            "an interrupted write is tried again"
+        );
         assert_eq!(rt; sink.write(b"c"), Err(SinkFailed), "no byte is taken");
         assert_eq!(rt; sink.write(b""), Ok(()));
     }

@@ -88,7 +88,11 @@ fn files_that_are_refused(rt: HostRuntime) -> Result<(), Fail> {
 fn long_files(rt: HostRuntime) -> Result<(), Fail> {
     let words = ["run", "a.elf", "--serial"];
     let mut file = vec![in rt.alloc(); 0; 16_777_217]?;
-    let long = (11, "", "shuffler: file a.elf is longer than 16777216 bytes\n");
+    let long = (
+        11,
+        "",
+        "shuffler: file a.elf is longer than 16777216 bytes\n",
+    );
     expect(&rt, rt.alloc(), &words, &file, Fails::Neither, long)?;
     file.truncate(16_777_216);
     let zeros = (12, "", "shuffler: refused: elf Magic\n");

@@ -20,11 +20,26 @@ harts 1
 #[test]
 fn guests_that_exit(rt: HostRuntime) -> Result<(), Fail> {
     let table = [
-        ((0x1030, 4, 0x0070_0513), 1, "hi\n", "instructions 17\nend exit 7\n"),
+        (
+            (0x1030, 4, 0x0070_0513),
+            1,
+            "hi\n",
+            "instructions 17\nend exit 7\n",
+        ),
         // 256, of which the low byte counts
-        ((0x1030, 4, 0x1000_0513), 0, "hi\n", "instructions 17\nend exit 0\n"),
+        (
+            (0x1030, 4, 0x1000_0513),
+            0,
+            "hi\n",
+            "instructions 17\nend exit 0\n",
+        ),
         // at once
-        ((0x1028, 4, 0x05d0_0893), 1, "", "instructions 14\nend exit 1\n"),
+        (
+            (0x1028, 4, 0x05d0_0893),
+            1,
+            "",
+            "instructions 14\nend exit 1\n",
+        ),
     ];
     for (one, status, out, last) in table {
         let report = format!(in rt.alloc(); "{HEAD_LINES}{last}")?;

@@ -25,7 +25,7 @@ fn the_ends(rt: HostRuntime) -> Result<(), Fail> {
     for (code, limit, want) in table {
         let sample = Sample {
             entry: HOME,
-            functions: &[("start", code.len() as u32)],
+            functions: &[("start", u32::try_from(code.len()).unwrap_or(0))],
             code,
             data: b"",
         };
