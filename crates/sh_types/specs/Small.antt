@@ -6,7 +6,7 @@ use Rattle.sh_types.specs.Environment.{Request}
 use Rattle.sh_types.specs.Kind.{Kind}
 use Rattle.sh_types.specs.Need.{Outcome, answered, reserved_at}
 use Rattle.sh_types.specs.Place.{pair}
-use Rattle.sh_types.specs.Unmoved.{Thread, Cell, Number, thread_does}
+use Rattle.sh_types.specs.Unmoved.{Thread, Content, Number, thread_does}
 
 -- sixteen bytes that can be written
 abbrev pub small_memory : List Region
@@ -26,7 +26,7 @@ holder n =
     }
 
 -- what an instruction of hart 0 makes, where each word is 0
-abbrev pub made_by : Kind Pair → Outcome Thread Cell
+abbrev pub made_by : Kind Pair → Outcome Thread Content
 made_by k = answered (thread_does small_memory (holder 0) k) (λ w. Number 0)
 
 -- a read of eight bytes, where three are left
