@@ -3,9 +3,7 @@ use Rattle.std.proofs.Common.{◌≡◌, ◌⊎◌, inl, inr, ℕ, zero, suc, �
 use Rattle.std.specs.Prelude.{◌==◌, ◌&&◌, is_none, replicate, slice_get, slice_index, slice_index_or, if◌then◌else◌}
 use Rattle.std.proofs.lemmas.Bool.{eqb-true, cases_Bool, cases_lt}
 use Rattle.std.proofs.lemmas.Bool.Decides.{nat_tests}
-use Rattle.std.proofs.lemmas.List.{length-map}
 use Rattle.sh_types.specs.declared.code.FrameState.{FrameState}
-use Rattle.sh_types.specs.declared.code.Function.{Function}
 use Rattle.sh_types.specs.declared.code.Image.{Image}
 use Rattle.sh_types.specs.declared.code.Pair.{Pair}
 use Rattle.sh_types.specs.declared.code.Region.{Region}
@@ -28,7 +26,7 @@ use Rattle.thin_law.proofs.Words.{addi_signed, IsEntryWord, entry_word, IsOtherW
 use Rattle.thin_law.proofs.States.{IsOpen, open_state, entered_open, state_first, state_next, state_within, state_open, state_entered, return_instr, return_decoded}
 use Rattle.thin_law.proofs.Cases.{Fits, plain_fits, return_fits, entry_fits}
 use Rattle.thin_law.proofs.Images.{IsThinFunction, IsThinImage, thin_code}
-use Rattle.thin_law.proofs.Runs.{copyable}
+use Rattle.thin_law.proofs.Runs.{copyable, length-sizes}
 
 -- ---- rows
 
@@ -94,11 +92,7 @@ no_row : (rows : List ℕ) (k f : ℕ) {P : Type 0} → rows ≡ [] → slice_ge
 no_row rows k f e t = absurd (none_at k f (subst (λ rows. slice_get rows k ≡ Some f) e t))
 
 few_literals : (i : Image) → literals_below (classified i) (length (sizes_of (classified i))) ≤ 2 ^ 20
-unfolding sizes_of
-few_literals i =
-    let many : length (sizes_of (classified i)) ≡ length (classified i).functions = length-map (classified i).functions (λ (f : Function). f.size) in
-    let few = (copyable i).literals in
-    rw many (omega (arith, few))
+few_literals i = let few = (copyable i).literals in rw (length-sizes (classified i)) (omega (arith, few))
 
 -- ---- a place with a row
 

@@ -29,7 +29,7 @@ total_is : (sizes : List ℕ) → total sizes ≡ sum_of sizes + 4 * length size
 total_is [] = refl
 total_is (s ∷ ss) = let rest = total_is ss in omega (arith, rest)
 
-length-sizes : (image : Image) → length (sizes_of image) ≡ length image.functions
+pub length-sizes : (image : Image) → length (sizes_of image) ≡ length image.functions
 unfolding sizes_of
 length-sizes image = length-map image.functions (λ (f : Function). f.size)
 

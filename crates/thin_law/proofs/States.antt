@@ -152,7 +152,7 @@ state_entered (w ∷ v ∷ ws) (suc k) row t e =
 
 -- ---- moves of sp
 
--- sp was moved from the depth d to this one, or from none, and the frame starts anew
+-- the depth d behind a move of sp: with the move it gives the one before, or none does and the frame starts anew
 pub data Shift (depth : ℕ) (imm : ℤ) (d : ℕ) : Type 0 where
   Back : plus_imm d imm ≡ depth → Shift depth imm d
   New : ((e : ℕ) → e ≤ 2 ^ 20 → plus_imm e imm ≢ depth) → d ≡ 0 → Shift depth imm d
