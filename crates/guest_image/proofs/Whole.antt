@@ -20,7 +20,7 @@ have_words b fs e a = subst (λ gs. All (HasWords b) gs) (sym (functions_are b f
 
 abbrev pub made_of : List Function → ℕ → List (List ℕ) → List Region → Image
 made_of functions entry words regions =
-    record { functions = functions; entry = entry; words = words; sites = []; frames = []; literals = []; rows = []; regions = regions }
+    record { functions = functions; entry = entry; words = words; sites = []; frames = []; literals = []; rows = []; labels = []; regions = regions }
 
 pub image_is : (b : List ℕ) (fs : List Function) (codes : List Head) (start entry : ℕ) (words : List (List ℕ)) (regions : List Region) → fs ≡ functions_of (symbols_of b) (sections_of b) (entry_of b) → codes ≡ codes_in_order b → start ≡ entry_of b → entry ≡ unwrap_or (number_of (starts_of fs) start) 0 → words ≡ map (function_words b codes) fs → regions ≡ file_regions b → made_of fs entry words regions ≡ loaded_image b
 unfolding loaded_image

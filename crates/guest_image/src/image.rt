@@ -65,6 +65,7 @@ pub fn image_of(alloc: Global, bytes: &[u8], file: AcceptedFile) -> Result<Image
         frames: Items::new(alloc),
         literals: Items::new(alloc),
         rows: Items::new(alloc),
+        labels: Items::new(alloc),
         regions: Items::from_vec(regions),
     })
 }

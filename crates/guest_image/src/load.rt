@@ -12,7 +12,7 @@ use std::thread::Threads;
 
 /// The image of the executable with these bytes: its functions by rising addresses, their words, the number of the
 /// function at the entry, and the readable bytes outside of code with the first stack behind them. What binds code to
-/// data is not read, so the lists of classes, frames and literals are empty.
+/// data is not read, so the lists of classes, frames, literals, rows and labels are empty.
 ///
 /// A file that is not accepted is answered by its first refusal, in this order:
 /// - `Elf`: the rules on the header and the tables, then those on the symbols and the names;

@@ -1,5 +1,5 @@
 //! Thin images with their classes and frames.
-ghost use Rattle.std.specs.Prelude.{◌≡◌, ◌==◌, IfOk, IfSome, None, Some, if◌then◌else◌, length};
+ghost use Rattle.std.specs.Prelude.{◌≡◌, ◌<◌, IfOk, IfSome, None, Some, if◌then◌else◌, length};
 ghost use Rattle.sh_types.specs.Coded.{IsCoded};
 ghost use Rattle.sh_types.specs.Image.{starts_of};
 ghost use Rattle.sh_types.specs.Runnable.{IsRunnable};
@@ -12,12 +12,19 @@ use crate::starts::starts_of;
 use crate::words::are_thin_functions;
 use sh_types::{Image, Items, NoMemory};
 use std::alloc::{AllocError, Global};
+use thin_law::thin_images_are_runnable;
 
-/// Whether one region can be read: the first stack, in the image of an accepted file.
-fn has_one_region(image: &Image) -> bool
-    ensures { result ≡ (length image.now.regions == 1) }
+/// Whether the first stack is all that can be read, and each function has the words of a thin file.
+#[tactic(auto, unfolding(sh_types::specs::Thin::is_thin))]
+fn is_thin(image: &Image, starts: &[u64]) -> bool
+    requires starts { starts.now ≡ starts_of image.now.functions }
+    requires rising { IsRising starts.now }
+    requires laid_out { IsLaidOut starts.now image.now.words }
+    requires entry { image.now.entry < length starts.now }
+    ensures { result ≡ is_thin image.now }
 {
     image.regions.len() == 1
+        && are_thin_functions(starts, starts[image.entry as usize], image.words.as_slice())
 }
 
 /// The image with the classes and frames of a thin one.
@@ -42,20 +49,17 @@ fn classified(alloc: Global, image: Image, starts: &[u64]) -> Result<Image, Allo
 /// classes and frames do not count. A machine can be made of the image that is given back. Err where memory is
 /// refused. The target of a call is found by a search among the starts, so the time is that of the number of words
 /// times the logarithm of the number of functions.
-#[tactic(auto, using(crate::proofs::Rising::rises, crate::proofs::Rising::laid_out), unfolding(sh_types::specs::Thin::is_thin))]
+#[tactic(auto, using(crate::proofs::Rising::rises, crate::proofs::Rising::laid_out))]
 pub fn classify(alloc: Global, image: Image) -> Result<Option<Image>, NoMemory>
     requires { IsCoded image }
     ensures is { IfOk result (λ found. found ≡ (if is_thin image then Some (classified image) else None)) }
     ensures runnable { IfOk result (λ found. IfSome found IsRunnable) }
 {
-    if !has_one_region(&image) {
-        return Ok(None);
-    }
     let starts = starts_of(alloc, image.functions.as_slice())?;
-    let entry = starts[image.entry as usize];
-    if !are_thin_functions(&starts, entry, image.words.as_slice()) {
+    if !is_thin(&image, &starts) {
         return Ok(None);
     }
+    thin_images_are_runnable();
     let found = classified(alloc, image, &starts)?;
     Ok(Some(found))
 }

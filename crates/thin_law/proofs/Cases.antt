@@ -12,13 +12,15 @@ use Rattle.sh_types.specs.declared.code.Site.{Site}
 use Rattle.sh_types.specs.declared.instructions.Instr.{Instr}
 use Rattle.sh_types.specs.declared.instructions.Op.{Op}
 use Rattle.sh_types.specs.declared.instructions.Op.TheVariants.{Lui, Addi, Add, Sb, Jal, Ecall}
+use Rattle.sh_types.specs.Constants.{constant_at}
 use Rattle.sh_types.specs.Copy.{saves, restores}
 use Rattle.sh_types.specs.Decoding.{made}
 use Rattle.sh_types.specs.Fine.{SiteFits}
 use Rattle.sh_types.specs.Frame.{frame, Move, Loses, Keeps, move_of, shift_of, IsLoose, dropped, MayDrop, Shifted, To, Anew, AfterMove, Follows}
 use Rattle.sh_types.specs.Image.{sizes_of, row_at, number_of}
-use Rattle.sh_types.specs.Instruction.{row_of}
+use Rattle.sh_types.specs.Instruction.{row_of, IsSigned}
 use Rattle.sh_types.specs.Kind.{framed_kind, plain_kind, site_kind}
+use Rattle.sh_types.specs.Need.{number_of_imm}
 use Rattle.sh_types.specs.Thin.{computes, is_addi, is_sb, is_ecall, is_jal, is_plain, moves_sp, is_call, is_entry_instr, callee_of, jump_target, call_site, instr_site, small_depth, state_behind, entered}
 use Rattle.sh_types.specs.Unmoved.{next_of}
 use Rattle.thin_law.proofs.States.{IsOpen, plain_parts, plain_state, return_instr, Shift, Back, New, shifted}
@@ -29,7 +31,7 @@ keeps rd m a b = rw (b, a) refl
 -- a word that is followed as it is to be, and whose class fits it
 pub record Fits (image : Image) (p : Pair) (row : FrameState) (s : Site) (i : Instr) : Type 0 where
   pub follows : Follows image p row (site_kind image p s i)
-  pub site : SiteFits image s (Some i)
+  pub site : SiteFits image p s (Some i)
 
 -- a call's target is a function other than the entry
 pub record IsOther (image : Image) (g : ℕ) : Type 0 where
@@ -51,12 +53,12 @@ module _ (image : Image) (p : Pair) (row : FrameState) (r : row_at image p ≡ S
       }
   plain_op Addi rd rs1 rs2 imm c a b n =
       record {
-        follows = subst (λ o. Follows image p row (framed_kind o (made Addi rd rs1 rs2 imm))) (sym r) (subst (AfterMove image p row) (sym (keeps rd (shift_of (made Addi rd rs1 rs2 imm)) a b)) n);
+        follows = subst (λ o. Follows image p row (framed_kind o (made Addi rd rs1 rs2 imm))) (sym r) (subst (AfterMove image p row) (sym (keeps rd (shift_of (constant_at image p) (made Addi rd rs1 rs2 imm)) a b)) n);
         site = refl;
       }
   plain_op Add rd rs1 rs2 imm c a b n =
       record {
-        follows = subst (λ o. Follows image p row (framed_kind o (made Add rd rs1 rs2 imm))) (sym r) (subst (AfterMove image p row) (sym (keeps rd (shift_of (made Add rd rs1 rs2 imm)) a b)) n);
+        follows = subst (λ o. Follows image p row (framed_kind o (made Add rd rs1 rs2 imm))) (sym r) (subst (AfterMove image p row) (sym (keeps rd (shift_of (constant_at image p) (made Add rd rs1 rs2 imm)) a b)) n);
         site = refl;
       }
   plain_op _ rd rs1 rs2 imm c a b n = absurd (cc)
@@ -67,31 +69,31 @@ module _ (image : Image) (p : Pair) (row : FrameState) (r : row_at image p ≡ S
       plain_op i.op i.rd i.rs1 i.rs2 i.imm h.op h.not_ra h.not_sp (n ∙ plain_state i row h)
 
   -- `addi sp,sp,imm`
-  shifts : (imm : ℤ) → p.func ≡ image.entry → IsOpen row → row_at image (next_of p) ≡ Some (frame (small_depth (pos row.depth -ℤ imm)) row.ra) → Shifted image p row imm
-  shifts imm en open_row n = by (shifted row.depth imm open_row.depth)
+  shifts : (imm : ℤ) → IsSigned 11 imm → p.func ≡ image.entry → IsOpen row → row_at image (next_of p) ≡ Some (frame (small_depth (pos row.depth -ℤ imm)) row.ra) → Shifted image p row (number_of_imm imm)
+  shifts imm s en open_row n = by (shifted row.depth imm open_row.depth s)
     where
-      by : Shift row.depth imm (small_depth (pos row.depth -ℤ imm)) → Shifted image p row imm
+      by : Shift row.depth imm (small_depth (pos row.depth -ℤ imm)) → Shifted image p row (number_of_imm imm)
       by (Back e) = To (small_depth (pos row.depth -ℤ imm)) e n
-      by (New e) = Anew en open_row.loose (n ∙ ap (λ d. Some (frame d row.ra)) e)
+      by (New none e) = Anew none en open_row.loose (n ∙ ap (λ d. Some (frame d row.ra)) e)
 
-  moves_op : (op : Op) (rd rs1 rs2 : ℕ) (imm : ℤ) → is_addi op ≡ true → rd ≡ 2 → rs1 ≡ 2 → p.func ≡ image.entry → IsOpen row → row_at image (next_of p) ≡ state_behind (made op 2 2 rs2 imm) row → Fits image p row (instr_site starts address (made op rd rs1 rs2 imm)) (made op rd rs1 rs2 imm)
+  moves_op : (op : Op) (rd rs1 rs2 : ℕ) (imm : ℤ) → is_addi op ≡ true → IsSigned 11 imm → rd ≡ 2 → rs1 ≡ 2 → p.func ≡ image.entry → IsOpen row → row_at image (next_of p) ≡ state_behind (made op 2 2 rs2 imm) row → Fits image p row (instr_site starts address (made op rd rs1 rs2 imm)) (made op rd rs1 rs2 imm)
   unfolding instr_site plain_kind saves restores row_of shift_of state_behind moves_sp
-  moves_op Addi rd rs1 rs2 imm t a b en open_row n =
+  moves_op Addi rd rs1 rs2 imm t s a b en open_row n =
       rw (a, b) (record {
-        follows = subst (λ o. Follows image p row (framed_kind o (made Addi 2 2 rs2 imm))) (sym r) (shifts imm en open_row n);
+        follows = subst (λ o. Follows image p row (framed_kind o (made Addi 2 2 rs2 imm))) (sym r) (shifts imm s en open_row n);
         site = refl;
       })
-  moves_op _ rd rs1 rs2 imm t a b en open_row n = absurd (cc)
+  moves_op _ rd rs1 rs2 imm t s a b en open_row n = absurd (cc)
 
-  pub moves_fits : (i : Instr) → moves_sp i ≡ true → p.func ≡ image.entry → IsOpen row → row_at image (next_of p) ≡ state_behind i row → Fits image p row (instr_site starts address i) i
+  pub moves_fits : (i : Instr) → moves_sp i ≡ true → (is_addi i.op ≡ true → IsSigned 11 i.imm) → p.func ≡ image.entry → IsOpen row → row_at image (next_of p) ≡ state_behind i row → Fits image p row (instr_site starts address i) i
   unfolding moves_sp
-  moves_fits i t en open_row n =
+  moves_fits i t signed en open_row n =
       let last = and_parts (is_addi i.op && (i.rd == 2)) (i.rs1 == 2) t in
       let first = and_parts (is_addi i.op) (i.rd == 2) last.0 in
       let a = eqb-true i.rd 2 first.1 in
       let b = eqb-true i.rs1 2 last.1 in
       let same : state_behind i row ≡ state_behind (made i.op 2 2 i.rs2 i.imm) row = ap (λ x. state_behind (made i.op x i.rs1 i.rs2 i.imm) row) a ∙ ap (λ x. state_behind (made i.op 2 x i.rs2 i.imm) row) b in
-      moves_op i.op i.rd i.rs1 i.rs2 i.imm first.0 a b en open_row (n ∙ same)
+      moves_op i.op i.rd i.rs1 i.rs2 i.imm first.0 (signed first.0) a b en open_row (n ∙ same)
 
   stores_op : (op : Op) (rd rs1 rs2 : ℕ) (imm : ℤ) → is_sb op ≡ true → row_at image (next_of p) ≡ state_behind (made op rd rs1 rs2 imm) row → Fits image p row (instr_site starts address (made op rd rs1 rs2 imm)) (made op rd rs1 rs2 imm)
   unfolding instr_site plain_kind saves restores row_of state_behind moves_sp
@@ -122,7 +124,10 @@ module _ (image : Image) (p : Pair) (row : FrameState) (r : row_at image p ≡ S
   calls_to (Some g) i t others ra en open_row n =
       let o = others g refl in
       record {
-        follows = record { start = refl; func = o.func; other = o.other; may = may_drop row.ra en open_row.loose; next = n ∙ ap (λ x. Some (frame row.depth x)) (sym (drops row.ra open_row.loose)) };
+        follows = (
+          record { start = refl; func = o.func; other = o.other },
+          record { may = may_drop row.ra en open_row.loose; next = n ∙ ap (λ x. Some (frame row.depth x)) (sym (drops row.ra open_row.loose)) },
+        );
         site = (ra, o.func);
       }
 
@@ -144,16 +149,16 @@ module _ (image : Image) (p : Pair) (row : FrameState) (r : row_at image p ≡ S
   -- `ret`
   pub return_fits : row ≡ entered → Fits image p row (instr_site starts address return_instr) return_instr
   unfolding instr_site row_of
-  return_fits e = record { follows = (ap (λ (s : FrameState). s.ra) e, ap (λ (s : FrameState). s.depth) e); site = refl }
+  return_fits e = record { follows = (ap (λ (s : FrameState). s.ra) e, ap (λ (s : FrameState). s.depth) e, refl); site = refl }
 
   -- a word of the entry function
-  pub entry_fits : (entry : ℕ) (i : Instr) → is_entry_instr starts entry address i ≡ true → OthersCalled image starts entry → p.func ≡ image.entry → IsOpen row → row_at image (next_of p) ≡ state_behind i row → Fits image p row (instr_site starts address i) i
+  pub entry_fits : (entry : ℕ) (i : Instr) → is_entry_instr starts entry address i ≡ true → (is_addi i.op ≡ true → IsSigned 11 i.imm) → OthersCalled image starts entry → p.func ≡ image.entry → IsOpen row → row_at image (next_of p) ≡ state_behind i row → Fits image p row (instr_site starts address i) i
   unfolding is_entry_instr
-  entry_fits entry i t others en open_row n = by (is_plain i) (moves_sp i) (is_sb i.op) (is_ecall i.op) refl refl refl refl t
+  entry_fits entry i t signed others en open_row n = by (is_plain i) (moves_sp i) (is_sb i.op) (is_ecall i.op) refl refl refl refl t
     where
       by : (a b c d : Bool) → is_plain i ≡ a → moves_sp i ≡ b → is_sb i.op ≡ c → is_ecall i.op ≡ d → (a || b || c || d || is_call starts entry address i) ≡ true → Fits image p row (instr_site starts address i) i
       by true b c d ea eb ec ed t = plain_fits i ea n
-      by false true c d ea eb ec ed t = moves_fits i eb en open_row n
+      by false true c d ea eb ec ed t = moves_fits i eb signed en open_row n
       by false false true d ea eb ec ed t = stores_op i.op i.rd i.rs1 i.rs2 i.imm ec n
       by false false false true ea eb ec ed t = asks_op i.op i.rd i.rs1 i.rs2 i.imm ed n
       by false false false false ea eb ec ed t = calls_fits entry i t others en open_row n

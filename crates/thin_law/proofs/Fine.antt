@@ -1,5 +1,5 @@
 -- The image of a thin file is fine.
-use Rattle.std.proofs.Common.{◌≡◌, ◌⊎◌, inl, inr, ℕ, zero, suc, ◌+◌, ◌*◌, ◌/◌, ◌%◌, ◌<◌, ◌≤◌, Bool, true, false, Option, Some, None, List, [], ◌∷◌, length, get_or, refl, sym, ap, ◌∙◌, subst, arith}
+use Rattle.std.proofs.Common.{◌≡◌, ◌⊎◌, inl, inr, ℕ, zero, suc, ◌+◌, ◌*◌, ◌/◌, ◌%◌, ◌^◌, ◌<◌, ◌≤◌, Bool, true, false, Option, Some, None, List, [], ◌∷◌, length, get_or, refl, sym, ap, ◌∙◌, subst, arith}
 use Rattle.std.specs.Prelude.{◌==◌, ◌&&◌, is_none, replicate, slice_get, slice_index, slice_index_or, if◌then◌else◌}
 use Rattle.std.proofs.lemmas.Bool.{eqb-true, cases_Bool, cases_lt}
 use Rattle.std.proofs.lemmas.Bool.Decides.{nat_tests}
@@ -14,6 +14,7 @@ use Rattle.sh_types.specs.declared.refusals.LoadFault.{LoadFault}
 use Rattle.sh_types.specs.Decoding.{decoded}
 use Rattle.sh_types.specs.Accepted.{Accepts, is_accepted, loaded_image, refusal_of}
 use Rattle.sh_types.specs.Coded.{IsCoded}
+use Rattle.sh_types.specs.Copy.{literals_below}
 use Rattle.sh_types.specs.Fine.{SiteFits, IsFine}
 use Rattle.sh_types.specs.Frame.{IsState, Follows}
 use Rattle.sh_types.specs.Image.{sizes_of, starts_of, no_rows, row_in, row_at, site_at, word_at, first_stack, stack_start, stack_end}
@@ -21,10 +22,11 @@ use Rattle.sh_types.specs.Kind.{Past, word_kind, kind_at}
 use Rattle.sh_types.specs.Place.{pair, IsPair}
 use Rattle.sh_types.specs.Thin.{is_plain_word, are_entry_words, are_plain_words, is_thin_function, word_site, sites_from, states_from, word_behind, entered, entry_home, is_thin, classified, thin_image}
 use Rattle.sh_types.specs.Unmoved.{next_of}
-use Rattle.thin_law.proofs.Words.{IsEntryWord, entry_word, IsOtherWord, other_word}
+use Rattle.thin_law.proofs.Words.{addi_signed, IsEntryWord, entry_word, IsOtherWord, other_word}
 use Rattle.thin_law.proofs.States.{IsOpen, open_state, entered_open, state_first, state_next, state_within, state_open, state_entered, return_instr, return_decoded}
 use Rattle.thin_law.proofs.Cases.{Fits, plain_fits, return_fits, entry_fits}
 use Rattle.thin_law.proofs.Images.{IsThinFunction, IsThinImage, thin_code}
+use Rattle.thin_law.proofs.Runs.{copyable, length-sizes}
 
 -- ---- rows
 
@@ -80,6 +82,18 @@ low_at rs k r e t = by k (subst (λ rs. slice_get rs k ≡ Some r) e t)
     by zero t = subst (λ (r : Region). r.end ≤ 0x40000000) (same_region first_stack r t) stack_low
     by (suc k) t = absurd (cc)
 
+-- ---- no addresses that are taken, and no literals
+
+none_at : (k f : ℕ) → slice_get [] k ≡ Some f → ⊥
+none_at k f e = cc
+
+-- where there is no row, what is to be true of each is
+no_row : (rows : List ℕ) (k f : ℕ) {P : Type 0} → rows ≡ [] → slice_get rows k ≡ Some f → P
+no_row rows k f e t = absurd (none_at k f (subst (λ rows. slice_get rows k ≡ Some f) e t))
+
+few_literals : (i : Image) → literals_below (classified i) (length (sizes_of (classified i))) ≤ 2 ^ 20
+few_literals i = let few = (copyable i).literals in rw (length-sizes (classified i)) (omega (arith, few))
+
 -- ---- a place with a row
 
 state_by : (rows others : List (Option FrameState)) (k : ℕ) (row : FrameState) → rows ≡ others → get_or rows k None ≡ Some row → get_or others k None ≡ Some row
@@ -96,7 +110,7 @@ thin_by starts entry start words t = t
 -- a word that is followed as it is to be, and whose class fits it
 record WordFits (image : Image) (p : Pair) (row : FrameState) (s : Site) (o : Option Instr) : Type 0 where
   follows : Follows image p row (word_kind image p s o)
-  site : SiteFits image s o
+  site : SiteFits image p s o
 
 word_fits : (image : Image) (p : Pair) (row : FrameState) (s : Site) (i : Instr) → Fits image p row s i → WordFits image p row s (Some i)
 word_fits image p row s i f = record { follows = f.follows; site = f.site }
@@ -131,11 +145,11 @@ module _ (image : Image) (starts : List ℕ) (entry : ℕ) (thin : IsThinImage i
       ∙ state_next (Some entered) words k l
       ∙ ap (word_behind (decoded (get_or words k 0))) r.state
 
-  entry_case : (p : Pair) (row : FrameState) (o : Option Instr) (s : Site) → row_at image p ≡ Some row → IsEntryWord starts entry o s → p.func ≡ image.entry → IsOpen row → row_at image (next_of p) ≡ word_behind o (Some row) → WordFits image p row s o
-  entry_case p row None s e w en open_row n = let t = w.fits in absurd (cc)
-  entry_case p row (Some i) s e w en open_row n =
-      subst (λ s. WordFits image p row s (Some i)) (sym w.site)
-      (word_fits image p row _ i (entry_fits image p row e starts w.address entry i w.fits thin.others en open_row n))
+  entry_case : (p : Pair) (row : FrameState) (w : ℕ) (o : Option Instr) (s : Site) → decoded w ≡ o → row_at image p ≡ Some row → IsEntryWord starts entry o s → p.func ≡ image.entry → IsOpen row → row_at image (next_of p) ≡ word_behind o (Some row) → WordFits image p row s o
+  entry_case p row w None s d e word en open_row n = let t = word.fits in absurd (cc)
+  entry_case p row w (Some i) s d e word en open_row n =
+      subst (λ s. WordFits image p row s (Some i)) (sym word.site)
+      (word_fits image p row _ i (entry_fits image p row e starts word.address entry i word.fits (addi_signed w i d) thin.others en open_row n))
 
   plain_case : (p : Pair) (row : FrameState) (o : Option Instr) (address : ℕ) → row_at image p ≡ Some row → is_plain_word o ≡ true → row_at image (next_of p) ≡ word_behind o (Some row) → WordFits image p row (word_site starts address o) o
   plain_case p row None address e t n = absurd (cc)
@@ -160,7 +174,7 @@ module _ (image : Image) (starts : List ℕ) (entry : ℕ) (thin : IsThinImage i
 
       by : (b : Bool) → (slice_index starts p.func == entry) ≡ b → (if b then are_entry_words starts entry (slice_index starts p.func) words else are_plain_words words) ≡ true → WordFits image p row (get_or (sites_from starts (slice_index starts p.func) words) k Plain) (decoded (get_or words k 0))
       by true q t =
-          entry_case p row (decoded (get_or words k 0)) _ e (entry_word starts entry (slice_index starts p.func) words k t l)
+          entry_case p row (get_or words k 0) (decoded (get_or words k 0)) _ refl e (entry_word starts entry (slice_index starts p.func) words k t l)
           (thin.entered_at p.func r.func (eqb-true (slice_index starts p.func) entry q))
           (state_open (Some entered) words k row entered_open r.state) n
       by false q t =
@@ -195,13 +209,15 @@ module _ (image : Image) (starts : List ℕ) (entry : ℕ) (thin : IsThinImage i
       let function = thin.each f l in
       row_there image f 0 0 refl ∙ ap (λ rows. get_or rows 0 None) function.rows ∙ state_first (Some entered) (slice_index_or image.words f [])
 
-  is_fine : IsFine image
-  is_fine =
+  is_fine : literals_below image (length (sizes_of image)) ≤ 2 ^ 20 → IsFine image
+  is_fine few =
       record {
         entry = thin.entry_in;
         whole = thin.whole;
         low = λ k r e. low_at image.regions k r thin.regions e;
         frames = record { first = first; inside = inside; states = state; follows = follows };
+        rows = λ k f e. no_row image.rows k f thin.none_taken e;
+        literals = few;
         sites = λ p row e l. (inner_fits p row e l).site;
       }
 
@@ -217,6 +233,10 @@ accepts b t = by (refusal_of b) t
     by None t = refl
     by (Some refusal) t = absurd (cc)
 
+none_loaded : (b : List ℕ) → (loaded_image b).rows ≡ []
+unfolding loaded_image
+none_loaded b = refl
+
 pub thin_fine : ((b : List ℕ) → Accepts b → IsCoded (loaded_image b)) → (b : List ℕ) (image : Image) → thin_image b ≡ Some image → IsFine image
 unfolding thin_image
 thin_fine coded b image e = by (is_accepted b) (is_thin (loaded_image b)) refl refl e
@@ -224,6 +244,7 @@ thin_fine coded b image e = by (is_accepted b) (is_thin (loaded_image b)) refl r
     by : (s t : Bool) → is_accepted b ≡ s → is_thin (loaded_image b) ≡ t → (if s && t then Some (classified (loaded_image b)) else None) ≡ Some image → IsFine image
     by true true a t e =
         subst IsFine (same_image (classified (loaded_image b)) image e)
-        (is_fine (classified (loaded_image b)) (starts_of (loaded_image b).functions) (entry_home (loaded_image b)) (thin_code (loaded_image b) (coded b (accepts b a)) t))
+        (is_fine (classified (loaded_image b)) (starts_of (loaded_image b).functions) (entry_home (loaded_image b))
+        (thin_code (loaded_image b) (coded b (accepts b a)) (none_loaded b) t) (few_literals (loaded_image b)))
     by true false a t e = absurd (cc)
     by false t a q e = absurd (cc)

@@ -28,6 +28,8 @@ pub record IsThinImage (image : Image) (starts : List ℕ) (entry : ℕ) : Type 
   pub beyond : (f : ℕ) → length (sizes_of image) ≤ f → (slice_index_or image.frames f no_rows).rows ≡ []
   pub whole : (f : ℕ) → slice_index (sizes_of image) f % 4 ≡ 0
   pub regions : image.regions ≡ first_stack ∷ []
+  -- no function's address is taken
+  pub none_taken : image.rows ≡ []
 
 -- ---- the number of a function
 
@@ -51,11 +53,11 @@ found k (s ∷ ss) address g e = by (λ h. found (k + 1) ss address g h) (s == a
         record { index = suc r.index; number = omega (arith, r.number); below = omega (arith, r.below); start = r.start }
 
 -- with no count before it
-record IsNumber (starts : List ℕ) (address g : ℕ) : Type 0 where
-  below : g < length starts
-  start : get_or starts g 0 ≡ address
+pub record IsNumber (starts : List ℕ) (address g : ℕ) : Type 0 where
+  pub below : g < length starts
+  pub start : get_or starts g 0 ≡ address
 
-is_number : (starts : List ℕ) (address g : ℕ) → number_of starts address ≡ Some g → IsNumber starts address g
+pub is_number : (starts : List ℕ) (address g : ℕ) → number_of starts address ≡ Some g → IsNumber starts address g
 is_number starts address g e =
     let r = found 0 starts address g e in
     let same : g ≡ r.index = omega (arith, r.number) in
@@ -87,17 +89,17 @@ no_rows_at ws f l = ap (λ (t : FrameTable). t.rows) (get_or_past (map frames_of
 -- ---- the image
 
 -- the parts of the test
-record IsThin (i : Image) : Type 0 where
-  regions : length i.regions ≡ 1
-  thin : are_thin_functions (starts_of i.functions) (entry_home i) i.words ≡ true
+pub record IsThin (i : Image) : Type 0 where
+  pub regions : length i.regions ≡ 1
+  pub thin : are_thin_functions (starts_of i.functions) (entry_home i) i.words ≡ true
 
-thin_parts : (i : Image) → is_thin i ≡ true → IsThin i
+pub thin_parts : (i : Image) → is_thin i ≡ true → IsThin i
 unfolding is_thin
 thin_parts i t =
     let parts = and_parts (length i.regions == 1) (are_thin_functions (starts_of i.functions) (entry_home i) i.words) t in
     record { regions = eqb-true (length i.regions) 1 parts.0; thin = parts.1 }
 
-module _ (i : Image) (code : IsCoded i) (test : IsThin i) where
+module _ (i : Image) (code : IsCoded i) (none_taken : i.rows ≡ []) (test : IsThin i) where
   many_starts : length (starts_of i.functions) ≡ length i.functions
   many_starts = length-map i.functions (λ (f : Function). f.home)
 
@@ -162,7 +164,8 @@ module _ (i : Image) (code : IsCoded i) (test : IsThin i) where
         beyond = λ f l. no_rows_past f (omega (arith, l, many));
         whole = λ f. ap (λ sizes. slice_index sizes f % 4) same_sizes ∙ code.whole f;
         regions = code.stack test.regions;
+        none_taken = none_taken;
       }
 
-pub thin_code : (i : Image) → IsCoded i → is_thin i ≡ true → IsThinImage (classified i) (starts_of i.functions) (entry_home i)
-thin_code i code t = is_thin_image i code (thin_parts i t)
+pub thin_code : (i : Image) → IsCoded i → i.rows ≡ [] → is_thin i ≡ true → IsThinImage (classified i) (starts_of i.functions) (entry_home i)
+thin_code i code none t = is_thin_image i code none (thin_parts i t)

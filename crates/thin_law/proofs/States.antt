@@ -1,5 +1,5 @@
 -- The states of the frames of thin functions, one by one.
-use Rattle.std.proofs.Common.{◌≡◌, ℕ, ℤ, pos, negsuc, zero, suc, ◌+◌, ◌^◌, ◌<◌, ◌≤◌, Bool, true, false, Option, Some, None, List, [], ◌∷◌, length, get_or, refl, ap, ◌∙◌, subst, arith}
+use Rattle.std.proofs.Common.{◌≡◌, ◌≢◌, ℕ, ℤ, pos, negsuc, zero, suc, ◌+◌, ◌^◌, ◌<◌, ◌≤◌, Bool, true, false, Option, Some, None, List, [], ◌∷◌, length, get_or, refl, sym, ap, ◌∙◌, subst, arith}
 use Rattle.std.specs.Prelude.{◌==◌, ◌&&◌, ◌-ℤ◌, nat_le, not, IfSome, if◌then◌else◌}
 use Rattle.std.proofs.lemmas.Bool.{and_parts, eqb-true}
 use Rattle.std.proofs.lemmas.Bool.Decides.{nat_tests}
@@ -12,7 +12,7 @@ use Rattle.sh_types.specs.declared.instructions.Op.{Op}
 use Rattle.sh_types.specs.declared.instructions.Op.TheVariants.{Lui, Addi, Add, Jalr}
 use Rattle.sh_types.specs.Decoding.{decoded, op_in, made}
 use Rattle.sh_types.specs.Frame.{IsLoose, IsState}
-use Rattle.sh_types.specs.Instruction.{row_of}
+use Rattle.sh_types.specs.Instruction.{row_of, IsSigned}
 use Rattle.sh_types.specs.Need.{plus_imm}
 use Rattle.sh_types.specs.Thin.{computes, is_jal, is_jalr, is_plain, is_plain_word, moves_sp, are_plain_words, entered, small_depth, state_behind, word_behind, states_from}
 
@@ -152,22 +152,35 @@ state_entered (w ∷ v ∷ ws) (suc k) row t e =
 
 -- ---- moves of sp
 
--- the depth that is left is again the one before, or the frame starts anew
+-- the depth d behind a move of sp: with the move it gives the one before, or none does and the frame starts anew
 pub data Shift (depth : ℕ) (imm : ℤ) (d : ℕ) : Type 0 where
   Back : plus_imm d imm ≡ depth → Shift depth imm d
-  New : d ≡ 0 → Shift depth imm d
+  New : ((e : ℕ) → e ≤ 2 ^ 20 → plus_imm e imm ≢ depth) → d ≡ 0 → Shift depth imm d
 
 back : (depth : ℕ) (imm : ℤ) (d : ℕ) → depth ≤ 2 ^ 20 → d ≤ 2 ^ 20 → pos depth -ℤ imm ≡ pos d → plus_imm d imm ≡ depth
 back depth (pos n) d l m e = let sum : d + n ≡ depth = omega (arith, ints) in rw sum (omega arith)
 back depth (negsuc n) d l m e = let sum : d ≡ depth + n + 1 = omega (arith, ints) in omega arith
 
-pub shifted : (depth : ℕ) (imm : ℤ) → depth ≤ 2 ^ 20 → Shift depth imm (small_depth (pos depth -ℤ imm))
-shifted depth imm l = by (pos depth -ℤ imm) refl
+ahead : (depth : ℕ) (imm : ℤ) (e : ℕ) → depth ≤ 2 ^ 20 → e ≤ 2 ^ 20 → IsSigned 11 imm → plus_imm e imm ≡ depth → pos depth -ℤ imm ≡ pos e
+ahead depth (pos n) e l m s h = let sum : e + n ≡ depth = omega arith in omega (arith, ints)
+ahead depth (negsuc n) e l m s h = let sum : e ≡ depth + n + 1 = omega arith in omega (arith, ints)
+
+far : (d e : ℕ) → 2 ^ 20 < d → e ≤ 2 ^ 20 → pos d ≢ pos e
+far d e l m same = let q : d ≡ e = cc in omega arith
+
+under : (d e : ℕ) → negsuc d ≢ pos e
+under d e same = cc
+
+pub shifted : (depth : ℕ) (imm : ℤ) → depth ≤ 2 ^ 20 → IsSigned 11 imm → Shift depth imm (small_depth (pos depth -ℤ imm))
+shifted depth imm l s = by (pos depth -ℤ imm) refl
   where
+    none : (z : ℤ) → pos depth -ℤ imm ≡ z → ((e : ℕ) → e ≤ 2 ^ 20 → z ≢ pos e) → (e : ℕ) → e ≤ 2 ^ 20 → plus_imm e imm ≢ depth
+    none z q other e m h = other e m (sym q ∙ ahead depth imm e l m s h)
+
     by_size : (d : ℕ) (b : Bool) → nat_le d (2 ^ 20) ≡ b → pos depth -ℤ imm ≡ pos d → Shift depth imm (if b then d else 0)
     by_size d true t e = let m : d ≤ 2 ^ 20 = grind (arith, nat_tests, t) in Back (back depth imm d l m e)
-    by_size d false t e = New refl
+    by_size d false t e = let more : 2 ^ 20 < d = grind (arith, nat_tests, t) in New (none (pos d) e (λ e m. far d e more m)) refl
 
     by : (z : ℤ) → pos depth -ℤ imm ≡ z → Shift depth imm (small_depth z)
     by (pos d) e = by_size d (nat_le d (2 ^ 20)) refl e
-    by (negsuc d) e = New refl
+    by (negsuc d) e = New (none (negsuc d) e (λ e m. under d e)) refl

@@ -1,11 +1,59 @@
 -- The words of thin functions, one by one, and their classes.
-use Rattle.std.proofs.Common.{◌≡◌, ◌⊎◌, inl, inr, ℕ, zero, suc, ◌+◌, ◌<◌, true, Option, List, [], ◌∷◌, length, get_or, refl, arith}
-use Rattle.std.proofs.lemmas.Bool.{and_parts, eqb-true}
+use Rattle.std.proofs.Common.{◌≡◌, ◌⊎◌, inl, inr, ℕ, zero, suc, ◌+◌, ◌/◌, ◌^◌, ◌<◌, true, Option, Some, None, List, [], ◌∷◌, length, get_or, refl, sym, ap, ◌∙◌, subst, arith}
+use Rattle.std.specs.Option.{option_map}
+use Rattle.std.proofs.lemmas.Bool.{and_parts, eqb-true, cases_lt, lt-ltb, le-ltb}
 use Rattle.sh_types.specs.declared.code.Site.{Site}
 use Rattle.sh_types.specs.declared.code.Site.TheVariants.{Plain}
 use Rattle.sh_types.specs.declared.instructions.Instr.{Instr}
-use Rattle.sh_types.specs.Decoding.{decoded}
-use Rattle.sh_types.specs.Thin.{is_entry_word, are_entry_words, is_plain_word, are_plain_words, word_site, sites_from}
+use Rattle.sh_types.specs.declared.instructions.Op.{Op}
+use Rattle.sh_types.specs.declared.instructions.Op.TheVariants.{Addi}
+use Rattle.sh_types.specs.Decoding.{decoded, op_in, read, signed_bits}
+use Rattle.sh_types.specs.Instruction.{Form, row_of, IsSigned}
+use Rattle.sh_types.specs.Instruction.Form.{Upper, Jump, Branch, Immediate, Storing, Register, Shift6, Shift5, Atomic, Reserving, Fencing, Whole}
+use Rattle.sh_types.specs.Thin.{is_addi, is_entry_word, are_entry_words, is_plain_word, are_plain_words, word_site, sites_from}
+
+-- ---- immediates
+
+-- an immediate of twelve bits that was read, also where the word is no number of 32 bits
+signed_any : (n : ℕ) → IsSigned 11 (signed_bits 11 n)
+signed_any n = elim (cases_lt n (2 ^ 11)) [
+  | inl low ↦ rw (lt-ltb n (2 ^ 11) low) low
+  | inr high ↦ rw (le-ltb n (2 ^ 11) high) (omega arith)
+]
+
+read_op : (op : Op) (form : Form) (w : ℕ) → (read op form w).op ≡ op
+read_op op Upper w = refl
+read_op op Jump w = refl
+read_op op Branch w = refl
+read_op op Immediate w = refl
+read_op op Storing w = refl
+read_op op Register w = refl
+read_op op Shift6 w = refl
+read_op op Shift5 w = refl
+read_op op Atomic w = refl
+read_op op Reserving w = refl
+read_op op Fencing w = refl
+read_op op Whole w = refl
+
+addi_is : (op : Op) → is_addi op ≡ true → op ≡ Addi
+addi_is Addi t = refl
+addi_is _ t = absurd (cc)
+
+-- that of ADDI
+pub addi_signed : (w : ℕ) (i : Instr) → decoded w ≡ Some i → is_addi i.op ≡ true → IsSigned 11 i.imm
+unfolding decoded row_of
+addi_signed w i e t = by (op_in w) e
+  where
+    by : (found : Option Op) → option_map (λ op. read op (row_of op).form w) found ≡ Some i → IsSigned 11 i.imm
+    by None e = absurd (cc)
+    by (Some op) e =
+        let same : read op (row_of op).form w ≡ i = cc in
+        let named : op ≡ i.op = sym (read_op op (row_of op).form w) ∙ ap (λ (j : Instr). j.op) same in
+        let addi : op ≡ Addi = named ∙ addi_is i.op t in
+        let made : read Addi (row_of Addi).form w ≡ i = subst (λ o. read o (row_of o).form w ≡ i) addi same in
+        subst (IsSigned 11) (ap (λ (j : Instr). j.imm) made) (signed_any (w / 2 ^ 20))
+
+-- ---- classes
 
 -- a word of the entry function and its class, by its address
 pub record IsEntryWord (starts : List ℕ) (entry : ℕ) (o : Option Instr) (s : Site) : Type 0 where

@@ -1,10 +1,12 @@
-//! What is true of the images of thin files, as clauses of functions that do nothing.
+//! What is true of thin images, as clauses of functions that do nothing.
 #![tactic(auto)]
 
-ghost use Rattle.std.specs.Prelude.{◌≡◌, ℕ, List, Some};
+ghost use Rattle.std.specs.Prelude.{◌≡◌, ℕ, List, Some, true};
 ghost use Rattle.sh_types.specs.declared.code.Image.{Image};
+ghost use Rattle.sh_types.specs.Coded.{IsCoded};
 ghost use Rattle.sh_types.specs.Fine.{IsFine};
-ghost use Rattle.sh_types.specs.Thin.{thin_image};
+ghost use Rattle.sh_types.specs.Runnable.{IsRunnable};
+ghost use Rattle.sh_types.specs.Thin.{classified, is_thin, thin_image};
 
 use load_law::accepted_images_are_coded;
 
@@ -14,3 +16,8 @@ pub fn thin_images_are_fine()
 {
     accepted_images_are_coded();
 }
+
+/// A machine can be made of a thin image, once it has its classes and frames.
+pub fn thin_images_are_runnable()
+    ensures runnable { (image : Image) → IsCoded image → is_thin image ≡ true → IsRunnable (classified image) }
+{}

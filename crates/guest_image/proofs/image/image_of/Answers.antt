@@ -34,6 +34,6 @@ returns c =
     let codes = c.deref.ensures.value ∙ c.in_ok-codes.ensures ∙ codes_are c.args.bytes.now _ (c.as_slice.ensures ∙ c.requires.tables.heads) in
     let entry = rw c.as_slice-3.ensures at c.entry_number.ensures in
     let words = rw c.as_slice-2.ensures at c.in_ok-words.ensures in
-    rw (c.new.ensures, c.new-2.ensures, c.new-3.ensures, c.new-4.ensures)
+    rw (c.new.ensures, c.new-2.ensures, c.new-3.ensures, c.new-4.ensures, c.new-5.ensures)
     (image_is c.args.bytes.now c.args.file.functions c.deref.result.now c.args.file.elf.entry c.entry_number.result c.from_vec.result c.from_vec-2.result
     c.requires.functions.are codes c.requires.tables.entry entry (c.from_vec.ensures ∙ words) (c.from_vec-2.ensures ∙ c.in_ok-regions.ensures))

@@ -1,7 +1,7 @@
 -- A machine can be made of a thin image.
 use Rattle.std.proofs.Common.{◌≡◌, ℕ, zero, suc, ◌+◌, ◌*◌, ◌/◌, ◌<◌, Bool, true, false, Option, Some, None, List, [], ◌∷◌, length, get_or, refl, sym, ◌∙◌, arith}
-use Rattle.std.specs.Prelude.{◌==◌, ◌&&◌, not, map, slice_index, if◌then◌else◌}
-use Rattle.std.specs.List.{list_all, position_from, zip}
+use Rattle.std.specs.Prelude.{◌&&◌, not, map, slice_index, if◌then◌else◌}
+use Rattle.std.specs.List.{list_all, zip}
 use Rattle.std.proofs.lemmas.Bool.{and_parts, true≢false}
 use Rattle.std.proofs.lemmas.Bool.Decides.{nat_tests}
 use Rattle.std.proofs.lemmas.List.{length-map}
@@ -16,12 +16,12 @@ use Rattle.sh_types.specs.Accepted.{sum_of}
 use Rattle.sh_types.specs.Coded.{IsCoded}
 use Rattle.sh_types.specs.Copy.{IsCopyable, goes_to, is_through, is_literal, literal_at, literals_in, literals_below}
 use Rattle.sh_types.specs.Decoding.{decoded}
-use Rattle.sh_types.specs.Image.{sizes_of, starts_of, number_of, site_at}
+use Rattle.sh_types.specs.Image.{sizes_of, starts_of, site_at}
 use Rattle.sh_types.specs.Place.{pair}
 use Rattle.sh_types.specs.Runnable.{IsRunnable}
 use Rattle.sh_types.specs.Sized.{total, IsSized}
-use Rattle.sh_types.specs.Thin.{callee_of, call_site, instr_site, word_site, sites_from, is_ecall, is_jalr, is_jal, classified}
-use Rattle.thin_image.proofs.Rising.{length-starts_of}
+use Rattle.sh_types.specs.Thin.{callee_of, call_site, instr_site, word_site, sites_from, is_ecall, is_jalr, is_jal, is_thin, classified}
+use Rattle.thin_law.proofs.Images.{is_number, thin_parts}
 
 -- ---- the sizes
 
@@ -29,7 +29,7 @@ total_is : (sizes : List ℕ) → total sizes ≡ sum_of sizes + 4 * length size
 total_is [] = refl
 total_is (s ∷ ss) = let rest = total_is ss in omega (arith, rest)
 
-length-sizes : (image : Image) → length (sizes_of image) ≡ length image.functions
+pub length-sizes : (image : Image) → length (sizes_of image) ≡ length image.functions
 unfolding sizes_of
 length-sizes image = length-map image.functions (λ (f : Function). f.size)
 
@@ -43,17 +43,6 @@ sized image coded =
     record { some = omega (arith, many, entry); few = omega (arith, many, few); fits = omega (arith, many, sum, few, code); whole = coded.whole }
 
 -- ---- the classes
-
-below : (k : ℕ) (starts : List ℕ) (address g : ℕ) → position_from (λ start. start == address) k starts ≡ Some g → g < k + length starts
-below k [] address g e = absurd cc
-below k (s ∷ ss) address g e = by (λ found. below (k + 1) ss address g found) (s == address) e
-  where
-    by : (position_from (λ start. start == address) (k + 1) ss ≡ Some g → g < k + 1 + length ss) → (t : Bool) → (if t then Some k else position_from (λ start. start == address) (k + 1) ss) ≡ Some g → g < k + length (s ∷ ss)
-    by rest true found = let same : k ≡ g = cc in omega arith
-    by rest false found = let later = rest found in omega (arith, later)
-
-pub number_below : (starts : List ℕ) (address g : ℕ) → number_of starts address ≡ Some g → g < length starts
-number_below starts address g e = let b = below 0 starts address g e in omega (arith, b)
 
 -- the classes that need more than a word
 is_rich : Site → Bool
@@ -77,7 +66,7 @@ instr_fits starts address i = by (is_ecall i.op) (is_jalr i.op) (is_jal i.op)
     by : (x y z : Bool) → fits (length starts) (if x then Environment else if y then ReturnLike else if z then call_site (callee_of starts address i) else Plain) ≡ true
     by true y z = refl
     by false true z = refl
-    by false false true = call_fits (length starts) (callee_of starts address i) (λ g e. number_below starts _ g e)
+    by false false true = call_fits (length starts) (callee_of starts address i) (λ g e. (is_number starts _ g e).below)
     by false false false = refl
 
 word_fits : (starts : List ℕ) (address : ℕ) (o : Option Instr) → fits (length starts) (word_site starts address o) ≡ true
@@ -165,23 +154,22 @@ none_below image (suc f) h =
 
 -- ---- the image
 
-copyable : (image : Image) → IsCopyable (classified image)
+pub copyable : (image : Image) → IsCopyable (classified image)
 unfolding classified
 copyable image =
     let starts : List ℕ = starts_of image.functions in
     let fit = all_fit starts (zip starts image.words) in
     let go = all_go (length starts) (classified image).sites fit in
     let none = none_below (classified image) (length image.functions) (never (length starts) (classified image) fit) in
-    let many = length-starts_of image.functions in
+    let many = length-map image.functions (λ (f : Function). f.home) in
     record {
       goes = rw (sym many) go;
       literals = rw none (omega arith);
       through = λ p i t d. absurd (true≢false (sym t ∙ no_through _ (poor_at (length starts) (classified image) fit p)));
     }
 
--- a machine can be made of an image with one region, once it has classes and frames
-pub runs : (found image : Image) → IsCoded image → (length image.regions == 1) ≡ true → found ≡ classified image → IsRunnable found
+-- a machine can be made of a thin image, once it has classes and frames
+pub thin_runs : (image : Image) → IsCoded image → is_thin image ≡ true → IsRunnable (classified image)
 unfolding classified sizes_of
-runs found image coded one e =
-    let regions : length image.regions ≡ 1 = grind (arith, nat_tests, one) in
-    rw e (record { sized = sized image coded; copyable = copyable image; entry = coded.entry; regions = coded.stack regions })
+thin_runs image coded t =
+    record { sized = sized image coded; copyable = copyable image; entry = coded.entry; regions = coded.stack (thin_parts image t).regions }
