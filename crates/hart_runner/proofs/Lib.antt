@@ -1,7 +1,10 @@
 pub mod Alone
 pub mod Calling
 pub mod Exits
-pub mod Rounds
-pub mod Written
+pub mod First
 pub mod Going
+pub mod Rounds
+pub mod Stills
 pub mod Tests
+pub mod Turns
+pub mod Written

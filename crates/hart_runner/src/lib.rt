@@ -5,7 +5,6 @@ mod asking;
 mod built;
 mod driven;
 mod plan;
-mod serial;
 
 pub use built::run_built;
 pub use plan::Plan;
