@@ -7,7 +7,7 @@ use Rattle.sh_types.specs.declared.code.Region.{Region}
 use Rattle.sh_types.specs.declared.runs.Stored.{Stored}
 use Rattle.sh_types.specs.Environment.{CallDid, Answers, Reads, Starts, ExitsHart, ExitsRun, LeaksWord, Request, read_call, write_call, written_from, start_at, ended_call, answer, failure, call_of}
 use Rattle.sh_types.specs.Memory.{bytes_from, readable}
-use Rattle.sh_types.specs.Need.{Outcome, Goes, Puts, Calls, Quits, Traps, Leaks, answered}
+use Rattle.sh_types.specs.Need.{Outcome, Goes, Puts, Calls, Quits, Traps, Leaks, answered, stored_at}
 use Rattle.sh_types.specs.Serial.{is_call, thread_calls, calls_next, further, run_length}
 use Rattle.sh_types.specs.Tokens.{row_named}
 use Rattle.sh_types.specs.Unmoved.{Thread, Cell, thread_needs, thread_loses, threads_lose, set_thread, ended_thread, Unmoved, then_leaves, then_call, thread_asks, any_alive, goes_still, is_alive, can_go, on_thread, unmoved_step, unmoved_from, unmoved_start, first_thread}
@@ -74,7 +74,7 @@ lose_one (Some s) ts t e = (thread_loses 0 s t, ap (map (thread_loses 0 s)) e)
 
 call_one : (u : Unmoved) (t : Thread) (d : CallDid) → StartsNone d → u.threads ≡ t ∷ [] → Only (then_call u 0 t d).threads
 call_one u t (Answers v more) n e = (set_thread t 10 v, set_one u.threads t (set_thread t 10 v) e)
-call_one u t (Reads a bytes) n e = lose_one _ _ (set_thread t 10 (length bytes)) (set_one u.threads t (set_thread t 10 (length bytes)) e)
+call_one u t (Reads a bytes) n e = lose_one (Some (stored_at a (length bytes))) (slice_set u.threads 0 (set_thread t 10 (length bytes))) (set_thread t 10 (length bytes)) (set_one u.threads t (set_thread t 10 (length bytes)) e)
 call_one u t (Starts f a0 sp tp) n e = absurd n
 call_one u t (ExitsHart code) n e = (ended_thread t code, set_one u.threads t (ended_thread t code) e)
 call_one u t (ExitsRun code) n e = (t, e)
@@ -82,7 +82,7 @@ call_one u t LeaksWord n e = (t, e)
 
 out_one : (i : Image) (u : Unmoved) (t : Thread) (x : Outcome Thread Cell) → (is_call x ≡ true → is_built_call (slice_index t.regs 17) ≡ true) → u.threads ≡ t ∷ [] → Only (then_leaves i u 0 t x).threads
 out_one i u t (Goes t') n e = (t', set_one u.threads t t' e)
-out_one i u t (Puts t' w c stored) n e = lose_one stored _ t' (set_one u.threads t t' e)
+out_one i u t (Puts t' w c stored) n e = lose_one stored (slice_set u.threads 0 t') t' (set_one u.threads t t' e)
 out_one i u t Calls n e = call_one u t (call_of i.regions i.rows (thread_asks u t)) (built_none i.regions i.rows (thread_asks u t) (n refl)) e
 out_one i u t Quits n e = (ended_thread t _, set_one u.threads t (ended_thread t _) e)
 out_one i u t (Traps kind v) n e = (t, e)

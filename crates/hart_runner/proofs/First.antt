@@ -70,10 +70,10 @@ taking_on period p es q q' left n t some g c e m =
     let count : (pace_of r).count ≡ b.count + n = ap (λ (x : Pace). x.count) more in
     let first : IsFirst i q.origin.input period (paced_on i (Run 0 n) b) = subst (λ k. IsFirst i q.origin.input period (paced_on i (Run 0 k) b)) (sym e) (paced_first i q.origin.input period left b t.first g c some t.room) in
     subst (λ x. Taking period p es x (left - n)) (sym m) (record {
-        turning = turning_on p q r es 0 left n t.turning some (goes_alone b.guest t.first.alone g) e refl;
-        first = subst (IsFirst i q.origin.input period) (sym more) first;
-        room = omega (arith, count, few, t.room);
-      })
+      turning = turning_on p q r es 0 left n t.turning some (goes_alone b.guest t.first.alone g) e refl;
+      first = subst (IsFirst i q.origin.input period) (sym more) first;
+      room = omega (arith, count, few, t.room);
+    })
 
 -- no more instructions, or the run has ended
 pub taken_all : (period : ℕ) (p : Past) (es : List Event) (q : Past) (left : ℕ) → Taking period p es q left → left ≤ 0 → q ≡ with_events p es

@@ -1,5 +1,5 @@
 -- A hart of a machine, by the thread of the unmoved one.
-use Rattle.std.proofs.Common.{◌≡◌, ℕ, ◌&&◌, Bool, true, false, Option, Some, None, inl, inr, refl, sym, ap, ◌∙◌, subst}
+use Rattle.std.proofs.Common.{◌≡◌, ℕ, ◌&&◌, Bool, true, false, Option, Some, None, refl, sym, ap, ◌∙◌, subst}
 use Rattle.std.specs.Prelude.{slice_get, slice_index, if◌then◌else◌}
 use Rattle.sh_types.specs.declared.code.Image.{Image}
 use Rattle.sh_types.specs.declared.layouts.Layout.{Layout}
@@ -11,7 +11,7 @@ use Rattle.sh_types.specs.Place.{whose_of}
 use Rattle.sh_types.specs.Shuffled.{Setting, Shuffled}
 use Rattle.sh_types.specs.StandsFor.{StandsFor}
 use Rattle.sh_types.specs.Unmoved.{Thread, Unmoved, goes_still, is_alive, can_go}
-use Rattle.sh_law.specs.Sound.{Stays, IsOn}
+use Rattle.sh_law.specs.Sound.{Stays}
 use Rattle.sh_law.proofs.Lists.{GetStands, get_stands}
 use Rattle.shuf_machine.specs.declared.answers.MachineNo.{MachineNo}
 use Rattle.shuf_machine.specs.declared.answers.MachineNo.TheVariants.{NotEnabled}
@@ -38,15 +38,11 @@ first_lives o s u h st go e = sym (ap is_live e) ∙ and_second (goes_still s.en
 pub first_is : (o : Setting) (s : Shuffled) (u : Unmoved) → StandsFor o s u → can_go u 0 ≡ true → slice_get s.harts 0 ≡ None → ⊥
 first_is o s u st go e = cc (sym (ap is_live e) ∙ and_second (goes_still s.end) (is_live (slice_get s.harts 0)) (can_stands o s u 0 st ∙ go))
 
-pub other_there : (o : Setting) (s : Shuffled) (u : Unmoved) (h : Hart) (image : Image) (l : Layout) → IsSetting o → Stays o s u → slice_get s.harts 0 ≡ Some h → h.live ≡ true → h.layout ≡ s.newest → image ≡ o.image → l ≡ o.layout_at s.newest → other_at image (whose_of l h.pc) (slice_index h.regs 17) ≡ comes_to_other o.image u
-other_there o s u h image l set st e live on ei el =
+pub other_there : (o : Setting) (s : Shuffled) (u : Unmoved) (h : Hart) (image : Image) (l : Layout) → IsSetting o → Stays o s u → slice_get s.harts 0 ≡ Some h → h.live ≡ true → image ≡ o.image → l ≡ o.layout_at h.layout → other_at image (whose_of l h.pc) (slice_index h.regs 17) ≡ comes_to_other o.image u
+other_there o s u h image l set st e live ei el =
     ap (λ (i : Image). other_at i (whose_of l h.pc) (slice_index h.regs 17)) ei
-    ∙ ap (λ (l : Layout). other_at o.image (whose_of l h.pc) (slice_index h.regs 17)) (el ∙ ap o.layout_at (sym on))
+    ∙ ap (λ (l : Layout). other_at o.image (whose_of l h.pc) (slice_index h.regs 17)) el
     ∙ sym (other_stands o s u h set st e live)
-
-pub on_newest : (newest n : ℕ) (older : Bool) → IsOn newest older n → older ≡ false → n ≡ newest
-on_newest newest n older (inl e) f = e
-on_newest newest n older (inr p) f = absurd (cc (p.0, f))
 
 -- ---- a hart that can go is not refused
 
