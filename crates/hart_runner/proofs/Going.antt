@@ -1,6 +1,7 @@
 -- A hart of a machine, by the thread of the unmoved one.
-use Rattle.std.proofs.Common.{◌≡◌, ℕ, ◌&&◌, Bool, true, false, Option, Some, None, refl, sym, ap, ◌∙◌, subst}
+use Rattle.std.proofs.Common.{◌≡◌, ℕ, zero, suc, ◌+◌, ◌≤◌, ◌<◌, ◌==◌, ◌&&◌, nat_lt, Bool, true, false, Option, Some, None, List, [], ◌∷◌, length, refl, sym, ap, ◌∙◌, subst, arith}
 use Rattle.std.specs.Prelude.{slice_get, slice_index, if◌then◌else◌}
+use Rattle.std.proofs.lemmas.Bool.Decides.{nat_tests}
 use Rattle.sh_types.specs.declared.code.Image.{Image}
 use Rattle.sh_types.specs.declared.layouts.Layout.{Layout}
 use Rattle.sh_types.specs.declared.runs.End.{End}
@@ -28,9 +29,13 @@ live_stands o None (Some t) stand = absurd stand
 live_stands o (Some h) None stand = absurd stand
 live_stands o (Some h) (Some t) stand = stand.live
 
+-- it is live where the thread is
+pub lives_stand : (o : Setting) (s : Shuffled) (u : Unmoved) (n : ℕ) → StandsFor o s u → is_live (slice_get s.harts n) ≡ is_alive (slice_get u.threads n)
+lives_stand o s u n st = live_stands o (slice_get s.harts n) (slice_get u.threads n) (get_stands o s.harts u.threads n st.harts)
+
 -- it can go where the thread can
 pub can_stands : (o : Setting) (s : Shuffled) (u : Unmoved) (n : ℕ) → StandsFor o s u → can_run s n ≡ can_go u n
-can_stands o s u n st = cc (st.end, live_stands o (slice_get s.harts n) (slice_get u.threads n) (get_stands o s.harts u.threads n st.harts))
+can_stands o s u n st = cc (st.end, lives_stand o s u n st)
 
 pub first_lives : (o : Setting) (s : Shuffled) (u : Unmoved) (h : Hart) → StandsFor o s u → can_go u 0 ≡ true → slice_get s.harts 0 ≡ Some h → h.live ≡ true
 first_lives o s u h st go e = sym (ap is_live e) ∙ and_second (goes_still s.end) (is_live (slice_get s.harts 0)) (can_stands o s u 0 st ∙ go)
@@ -58,3 +63,37 @@ pub never_refused : (e : MachineNo) (why : Option No) (w : No) → IsCause e why
 never_refused e why w cause none is =
     let some : why ≡ Some w = subst (λ x. IsCause x why) is cause in
     cc (none, some)
+
+-- ---- behind the last hart
+
+none_from : (hs : List Hart) (n : ℕ) → length hs ≤ n → is_live (slice_get hs n) ≡ false
+none_from [] n l = refl
+none_from (h ∷ hs) zero l = absurd (omega (arith, l))
+none_from (h ∷ hs) (suc n) l = none_from hs n (omega (arith, l))
+
+-- each thread from a number up to another is not live
+abbrev pub NoneLive : Unmoved → ℕ → ℕ → Type 0
+NoneLive u low n = (k : ℕ) → low ≤ k → k < n → is_alive (slice_get u.threads k) ≡ false
+
+pub none_first : (u : Unmoved) (low : ℕ) → NoneLive u low low
+none_first u low = λ k a b. absurd (omega (arith, a, b))
+
+pub none_more : (u : Unmoved) (low n : ℕ) → NoneLive u low n → is_alive (slice_get u.threads n) ≡ false → NoneLive u low (n + 1)
+none_more u low n none e = λ k a b. by k a b (k == n) refl
+  where
+    less : (k : ℕ) → (k == n) ≡ false → k < n + 1 → k < n
+    less k t l = grind (arith, nat_tests)
+
+    same : (k : ℕ) → (k == n) ≡ true → k ≡ n
+    same k t = grind (arith, nat_tests)
+
+    by : (k : ℕ) → low ≤ k → k < n + 1 → (t : Bool) → (k == n) ≡ t → is_alive (slice_get u.threads k) ≡ false
+    by k a b true t = ap (λ m. is_alive (slice_get u.threads m)) (same k t) ∙ e
+    by k a b false t = none k a (less k t b)
+
+pub none_all : (o : Setting) (s : Shuffled) (u : Unmoved) (low n : ℕ) → StandsFor o s u → NoneLive u low n → length s.harts ≤ n → (k : ℕ) → low ≤ k → is_alive (slice_get u.threads k) ≡ false
+none_all o s u low n st none few k a = by (nat_lt k n) refl
+  where
+    by : (t : Bool) → nat_lt k n ≡ t → is_alive (slice_get u.threads k) ≡ false
+    by true t = none k a (grind (arith, nat_tests))
+    by false t = sym (lives_stand o s u k st) ∙ none_from s.harts k (grind (arith, nat_tests, few))

@@ -1,9 +1,14 @@
 pub mod Alone
+pub mod Behind
+pub mod Boundaries
 pub mod Calling
 pub mod Exits
 pub mod First
 pub mod Going
+pub mod Linking
+pub mod Numbers
 pub mod Rounds
+pub mod Running
 pub mod Stills
 pub mod Tests
 pub mod Turns

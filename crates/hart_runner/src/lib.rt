@@ -4,6 +4,8 @@
 mod asking;
 mod built;
 mod driven;
+mod harts;
+mod layouts;
 mod plan;
 
 pub use built::run_built;
