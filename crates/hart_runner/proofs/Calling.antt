@@ -14,18 +14,20 @@ use Rattle.sh_types.specs.declared.code.Site.TheVariants as site
 use Rattle.sh_types.specs.declared.instructions.Instr.{Instr}
 use Rattle.sh_types.specs.declared.runs.Hart.{Hart}
 use Rattle.sh_types.specs.declared.runs.Trap.{Trap}
+use Rattle.sh_types.specs.declared.runs.Trap.TheVariants as trap
 use Rattle.sh_types.specs.Copy.{saves, restores}
 use Rattle.sh_types.specs.Decoding.{decoded}
 use Rattle.sh_types.specs.Fine.{IsFine, IsSetting, SiteFits}
 use Rattle.sh_types.specs.Image.{sizes_of, word_at, site_at, row_at}
-use Rattle.sh_types.specs.Kind.{Kind, Sets, Computes, Passes, Loads, Stores, Atomics, Saves, Restores, CallsTo, JumpsTo, Branches, Through, GoesBack, Asks, Breaks, Illegal, Past, opcode_of, is_system, plain_kind, framed_kind, word_kind, kind_at}
+use Rattle.sh_types.specs.Kind.{Kind, Sets, Computes, Passes, Loads, Stores, Atomics, Saves, Restores, CallsTo, JumpsTo, Branches, CallsThrough, JumpsThrough, GoesBack, Asks, Breaks, Illegal, Past, opcode_of, is_system, plain_kind, framed_kind, word_kind, kind_at}
 use Rattle.sh_types.specs.Arithmetic.{is_arithmetic}
 use Rattle.sh_types.specs.Memory.{readable, writable}
-use Rattle.sh_types.specs.Need.{Outcome, Traps, Leaks, Need, Makes, Touches, answered, touching, plus_imm}
-use Rattle.sh_types.specs.Operands.{reads_ra, both_ra, width_of}
+use Rattle.sh_types.specs.Need.{Outcome, Traps, Leaks, Need, Makes, Touches, answered, touching, plus_imm, is_held}
+use Rattle.sh_types.specs.Operands.{reads_ra, both_ra, width_of, is_lr, is_sc}
+use Rattle.sh_types.specs.Tokens.{jump_number}
 use Rattle.sh_types.specs.Place.{IsPair, whose_of}
 use Rattle.sh_types.specs.Serial.{is_call, thread_calls, calls_next}
-use Rattle.sh_types.specs.Unmoved.{Thread, Cell, Number, Return, thread_does, thread_needs, load_cell, store_cell, save_cell, take_cell, save_by, back_to, is_return, Unmoved}
+use Rattle.sh_types.specs.Unmoved.{Thread, Cell, Number, Return, thread_does, thread_needs, load_cell, store_cell, reserve_cell, store_if, amo_cell, atomic_cell, save_cell, take_cell, save_by, back_to, call_by, jump_by, is_return, Unmoved}
 use Rattle.sh_types.specs.Chain.{Sound}
 use Rattle.sh_types.specs.Shuffled.{Setting, Shuffled}
 use Rattle.sh_types.specs.StandsFor.{RunsAs, HartStands, HartsStand}
@@ -48,8 +50,9 @@ is_asks (Restores imm) = false
 is_asks (CallsTo p) = false
 is_asks (JumpsTo p) = false
 is_asks (Branches i p) = false
-is_asks (Through i) = false
-is_asks GoesBack = false
+is_asks (CallsThrough rs1 imm way) = false
+is_asks (JumpsThrough rs1 imm way) = false
+is_asks (GoesBack imm) = false
 is_asks Breaks = false
 is_asks Illegal = false
 is_asks Past = false
@@ -86,6 +89,26 @@ save_not : (mp : ℕ → ℕ → Bool) (t : Thread) (a : ℕ) (r : Option CodeRe
 save_not mp t a None m = refl
 save_not mp t a (Some r) m = touching_not mp 8 _ _ a (λ c. save_cell t a r c) m (λ c. put_not t a r c)
 
+reserve_not : (t : Thread) (i : Instr) (a : ℕ) (c : Cell) → is_call (reserve_cell t i a c) ≡ false
+reserve_not t i a (Number v) = refl
+reserve_not t i a (Return k r) = refl
+
+store_if_not : (t : Thread) (i : Instr) (a x v : ℕ) (b : Bool) → is_call (store_if t i a x v b) ≡ false
+store_if_not t i a x v true = refl
+store_if_not t i a x v false = refl
+
+atomic_not : (t : Thread) (i : Instr) (a x : ℕ) (c : Cell) → is_call (atomic_cell t i a x c) ≡ false
+atomic_not t i a x (Number v) = if_out (is_sc i.op) _ (amo_cell t i a x v) (store_if_not t i a x v (is_held t.reserved a (width_of i.op))) refl
+atomic_not t i a x (Return k r) = refl
+
+call_not : (t : Thread) (v : ℕ) (to : Option Pair) → is_call (call_by t v to) ≡ false
+call_not t v None = refl
+call_not t v (Some p) = refl
+
+jump_not : (t : Thread) (v : ℕ) (to : Option Pair) → is_call (jump_by t v to) ≡ false
+jump_not t v None = refl
+jump_not t v (Some p) = refl
+
 back_not : (r : Option CodeRef) (t : Thread) → is_call (back_to r t) ≡ false
 back_not None t = refl
 back_not (Some Root) t = refl
@@ -97,14 +120,20 @@ calls_asks rs t (Computes i) m = if_not (is_return t.ra && reads_ra i) (Makes Le
 calls_asks rs t Passes m = refl
 calls_asks rs t (Loads i) m = if_not (is_return t.ra && (i.rs1 == 1)) (Makes Leaks) _ m refl (touching_not (readable rs) (width_of i.op) _ _ (plus_imm (slice_index t.regs i.rs1) i.imm) (λ c. load_cell t i (plus_imm (slice_index t.regs i.rs1) i.imm) c) m (λ c. load_not t i (plus_imm (slice_index t.regs i.rs1) i.imm) c))
 calls_asks rs t (Stores i) m = if_not (is_return t.ra && both_ra i) (Makes Leaks) _ m refl (touching_not (writable rs) (width_of i.op) _ _ (plus_imm (slice_index t.regs i.rs1) i.imm) (λ c. store_cell t (plus_imm (slice_index t.regs i.rs1) i.imm) (width_of i.op) (slice_index t.regs i.rs2) c) m (λ c. store_not t (plus_imm (slice_index t.regs i.rs1) i.imm) (width_of i.op) (slice_index t.regs i.rs2) c))
-calls_asks rs t (Atomics i) m = refl
+calls_asks rs t (Atomics i) m =
+    let reserve : Need Thread Cell = touching (readable rs) (width_of i.op) trap.Misaligned trap.Load (slice_index t.regs i.rs1) (λ c. reserve_cell t i (slice_index t.regs i.rs1) c) in
+    let change : Need Thread Cell = touching (writable rs) (width_of i.op) trap.Misaligned trap.Store (slice_index t.regs i.rs1) (λ c. atomic_cell t i (slice_index t.regs i.rs1) (slice_index t.regs i.rs2) c) in
+    let p : is_call (answered reserve m) ≡ false = touching_not (readable rs) (width_of i.op) trap.Misaligned trap.Load (slice_index t.regs i.rs1) (λ c. reserve_cell t i (slice_index t.regs i.rs1) c) m (λ c. reserve_not t i (slice_index t.regs i.rs1) c) in
+    let q : is_call (answered change m) ≡ false = touching_not (writable rs) (width_of i.op) trap.Misaligned trap.Store (slice_index t.regs i.rs1) (λ c. atomic_cell t i (slice_index t.regs i.rs1) (slice_index t.regs i.rs2) c) m (λ c. atomic_not t i (slice_index t.regs i.rs1) (slice_index t.regs i.rs2) c) in
+    if_not (is_return t.ra && both_ra i) (Makes Leaks) (if is_lr i.op then reserve else change) m refl (if_not (is_lr i.op) reserve change m p q)
 calls_asks rs t (Saves imm) m = save_not (writable rs) t (plus_imm (slice_index t.regs 2) imm) t.ra m
 calls_asks rs t (Restores imm) m = touching_not (readable rs) 8 _ _ (plus_imm (slice_index t.regs 2) imm) (λ c. take_cell t (plus_imm (slice_index t.regs 2) imm) c) m (λ c. take_not t (plus_imm (slice_index t.regs 2) imm) c)
 calls_asks rs t (CallsTo p) m = refl
 calls_asks rs t (JumpsTo p) m = refl
 calls_asks rs t (Branches i p) m = if_not (is_return t.ra && both_ra i) (Makes Leaks) _ m refl refl
-calls_asks rs t (Through i) m = refl
-calls_asks rs t GoesBack m = back_not t.ra t
+calls_asks rs t (CallsThrough rs1 imm way) m = if_not (is_return t.ra && (rs1 == 1)) (Makes Leaks) _ m refl (call_not t (jump_number (slice_index t.regs rs1) imm) (way (jump_number (slice_index t.regs rs1) imm)))
+calls_asks rs t (JumpsThrough rs1 imm way) m = if_not (is_return t.ra && (rs1 == 1)) (Makes Leaks) _ m refl (jump_not t (jump_number (slice_index t.regs rs1) imm) (way (jump_number (slice_index t.regs rs1) imm)))
+calls_asks rs t (GoesBack imm) m = back_not t.ra t
 calls_asks rs t Asks m = refl
 calls_asks rs t Breaks m = refl
 calls_asks rs t Illegal m = refl
@@ -125,17 +154,23 @@ framed_not : (row : Option FrameState) (i : Instr) → is_asks {T = Pair} (frame
 framed_not None i = plain_not i
 framed_not (Some s) i = if_kind (saves s i) _ _ refl (if_kind (restores s i) _ _ refl (plain_not i))
 
-site_asks : (image : Image) (p : Pair) (s : Site) (i : Option Instr) → SiteFits image s i → is_asks (word_kind image p s i) ≡ is_environment s
+site_asks : (image : Image) (p : Pair) (s : Site) (i : Option Instr) → SiteFits image p s i → is_asks (word_kind image p s i) ≡ is_environment s
 site_asks image p Plain None f = absurd f
 site_asks image p Plain (Some i) f = framed_not (row_at image p) i
-site_asks image p Literal i f = absurd f
-site_asks image p (InnerJump to) i f = absurd f
-site_asks image p (InnerBranch to) i f = absurd f
+site_asks image p Literal None f = absurd f
+site_asks image p Literal (Some i) f = refl
+site_asks image p (InnerJump to) None f = absurd f
+site_asks image p (InnerJump to) (Some i) f = refl
+site_asks image p (InnerBranch to) None f = absurd f
+site_asks image p (InnerBranch to) (Some i) f = refl
 site_asks image p (DirectCall g) None f = absurd f
 site_asks image p (DirectCall g) (Some i) f = refl
-site_asks image p (DirectTail g) i f = absurd f
-site_asks image p IndirectCall i f = absurd f
-site_asks image p IndirectTail i f = absurd f
+site_asks image p (DirectTail g) None f = absurd f
+site_asks image p (DirectTail g) (Some i) f = refl
+site_asks image p IndirectCall None f = absurd f
+site_asks image p IndirectCall (Some i) f = refl
+site_asks image p IndirectTail None f = absurd f
+site_asks image p IndirectTail (Some i) f = refl
 site_asks image p ReturnLike None f = absurd f
 site_asks image p ReturnLike (Some i) f = refl
 site_asks image p Environment None f = absurd f

@@ -3,19 +3,10 @@ use Rattle.std.proofs.Common.{◌≡◌, ℕ, zero, suc, ◌-◌, ◌≤◌, Boo
 use Rattle.std.specs.Prelude.{not, ◌&&◌, if◌then◌else◌}
 use Rattle.sh_types.specs.declared.code.Image.{Image}
 use Rattle.sh_types.specs.declared.runs.End.{End}
-use Rattle.sh_types.specs.Event.{goes_still}
-use Rattle.sh_types.specs.Serial.{can_go, calls_next, further, run_length}
-use Rattle.sh_types.specs.Unmoved.{Unmoved, unmoved_step, unmoved_from}
+use Rattle.sh_types.specs.Serial.{calls_next, further, run_length}
+use Rattle.sh_types.specs.Unmoved.{Unmoved, goes_still, can_go, unmoved_step, unmoved_from}
 use Rattle.hart_runner.specs.Built.{comes_to_other, exits_or, exits_within}
-use Rattle.hart_runner.proofs.Tests.{and_first, and_second, none_of}
-
-no_call : (i : Image) (u : Unmoved) → not (calls_next i u 0) ≡ true → comes_to_other i u ≡ false
-unfolding comes_to_other
-no_call i u e = by (calls_next i u 0) _ e
-  where
-    by : (b c : Bool) → not b ≡ true → (b && c) ≡ false
-    by true c e = absurd (cc)
-    by false c e = refl
+use Rattle.hart_runner.proofs.Tests.{and_first, and_second, none_of, no_call}
 
 -- one more instruction
 pub exits_next : (i : Image) (k : ℕ) (u : Unmoved) → goes_still u.end ≡ true → comes_to_other i u ≡ false → exits_within i (suc k) u ≡ exits_within i k (unmoved_step i 0 u)

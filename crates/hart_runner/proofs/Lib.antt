@@ -1,7 +1,15 @@
 pub mod Alone
+pub mod Behind
+pub mod Boundaries
 pub mod Calling
 pub mod Exits
-pub mod Rounds
-pub mod Written
+pub mod First
 pub mod Going
+pub mod Linking
+pub mod Numbers
+pub mod Rounds
+pub mod Running
+pub mod Stills
 pub mod Tests
+pub mod Turns
+pub mod Written

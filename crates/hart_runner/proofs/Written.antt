@@ -1,22 +1,12 @@
 -- Where a journal stands, by its instructions.
-use Rattle.std.proofs.Common.{◌≡◌, ℕ, zero, suc, ◌+◌, List, [], ◌∷◌, ◌++◌, length, replicate, refl, sym, ◌∙◌, arith}
+use Rattle.std.proofs.Common.{◌≡◌, ℕ, zero, suc, ◌+◌, List, [], ◌∷◌, ◌++◌, length, replicate, arith}
 use Rattle.sh_types.specs.declared.code.Image.{Image}
 use Rattle.sh_types.specs.declared.runs.Event.{Event}
 use Rattle.sh_types.specs.declared.runs.Event.TheVariants.{Run, Migrate, Publish, Erase}
 use Rattle.sh_types.specs.Event.{written}
 use Rattle.sh_types.specs.Pace.{Pace, followed, paced_on, opening_pace, pace_after}
-use Rattle.sh_types.specs.Unmoved.{Unmoved, unmoved_from, unmoved_step, unmoved_run}
-
-from_both : (i : Image) (ns ms : List ℕ) (u : Unmoved) → unmoved_from i (ns ++ ms) u ≡ unmoved_from i ms (unmoved_from i ns u)
-from_both i [] ms u = refl
-from_both i (n ∷ ns) ms u = from_both i ns ms (unmoved_step i n u)
-
-guest_follows : (i : Image) (es : List Event) (b : Pace) → (followed i es b).guest ≡ unmoved_from i (written es) b.guest
-guest_follows i [] b = refl
-guest_follows i (Run n k ∷ es) b = guest_follows i es (paced_on i (Run n k) b) ∙ sym (from_both i (replicate k n) (written es) b.guest)
-guest_follows i (Migrate n ∷ es) b = guest_follows i es (paced_on i (Migrate n) b)
-guest_follows i (Publish k ∷ es) b = guest_follows i es (paced_on i (Publish k) b)
-guest_follows i (Erase k ∷ es) b = guest_follows i es (paced_on i (Erase k) b)
+use Rattle.sh_types.specs.Unmoved.{unmoved_run}
+use Rattle.sh_law.proofs.Pacing.{guest_is}
 
 run_long : (k n : ℕ) (ns : List ℕ) → length (replicate k n ++ ns) ≡ k + length ns
 run_long zero n ns = omega arith
@@ -32,10 +22,10 @@ count_follows i (Migrate n ∷ es) b = count_follows i es (paced_on i (Migrate n
 count_follows i (Publish k ∷ es) b = count_follows i es (paced_on i (Publish k) b)
 count_follows i (Erase k ∷ es) b = count_follows i es (paced_on i (Erase k) b)
 
-pub pace_guest : (i : Image) (es : List Event) → (pace_after i es).guest ≡ unmoved_run i (written es)
+pub pace_guest : (i : Image) (input : List ℕ) (es : List Event) → (pace_after i input es).guest ≡ unmoved_run i input (written es)
 unfolding pace_after unmoved_run
-pace_guest i es = guest_follows i es (opening_pace i)
+pace_guest i input es = guest_is i es (opening_pace i input)
 
-pub pace_count : (i : Image) (es : List Event) → (pace_after i es).count ≡ length (written es)
+pub pace_count : (i : Image) (input : List ℕ) (es : List Event) → (pace_after i input es).count ≡ length (written es)
 unfolding pace_after
-pace_count i es = let q = count_follows i es (opening_pace i) in omega (arith, q)
+pace_count i input es = let q = count_follows i es (opening_pace i input) in omega (arith, q)

@@ -1,6 +1,6 @@
 -- The guests that are run: those whose first hart comes to an exit before the first publication, and to no environment
 -- call but write and exit. This project's own.
-use Rattle.std.specs.Prelude.{ℕ, zero, suc, ◌==◌, ◌&&◌, ◌||◌, Bool, true, false, not, Option, Some, None, slice_get, slice_index}
+use Rattle.std.specs.Prelude.{ℕ, zero, suc, ◌==◌, ◌&&◌, ◌||◌, Bool, true, false, not, Option, Some, None, List, slice_get, slice_index}
 use Rattle.sh_types.specs.declared.code.Image.{Image}
 use Rattle.sh_types.specs.declared.code.Pair.{Pair}
 use Rattle.sh_types.specs.declared.code.Site.{Site}
@@ -37,8 +37,8 @@ exits_within i zero u = exits_or u.end false
 exits_within i (suc n) u = exits_or u.end (not (comes_to_other i u) && exits_within i n (unmoved_step i 0 u))
 
 -- the guest is run: it comes to an exit within so many instructions
-unfoldable pub is_built : ℕ → Image → Bool
-is_built period i = exits_within i period (unmoved_start i)
+unfoldable pub is_built : (period : ℕ) → Image → (input : List ℕ) → Bool
+is_built period i input = exits_within i period (unmoved_start i input)
 
 abbrev pub is_environment : Site → Bool
 is_environment Environment = true

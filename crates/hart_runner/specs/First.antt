@@ -1,9 +1,8 @@
 -- A run of the first hart up to the first publication.
-use Rattle.std.specs.Prelude.{◌≡◌, ℕ, ◌-◌, ◌≤◌, true, [], ◌∷◌}
+use Rattle.std.specs.Prelude.{◌≡◌, ℕ, ◌-◌, ◌≤◌, true, List, [], ◌∷◌}
 use Rattle.sh_types.specs.declared.code.Image.{Image}
-use Rattle.sh_types.specs.Event.{goes_still}
 use Rattle.sh_types.specs.Pace.{Pace}
-use Rattle.sh_types.specs.Unmoved.{Thread, Unmoved}
+use Rattle.sh_types.specs.Unmoved.{Thread, Unmoved, goes_still}
 use Rattle.hart_runner.specs.Built.{is_built, exits_within}
 
 -- the first hart is the only one, and as long as the run goes on it is live
@@ -14,9 +13,8 @@ pub record IsAlone (u : Unmoved) : Type 0 where
 
 -- Where events of the first hart alone stand before the first publication: an exit is as near as the guest's being run
 -- says.
-pub record IsFirst (i : Image) (period : ℕ) (b : Pace) : Type 0 where
+pub record IsFirst (i : Image) (input : List ℕ) (period : ℕ) (b : Pace) : Type 0 where
   pub alone : IsAlone b.guest
-  pub newest : b.newest ≡ 1
   pub behind : b.behind ≡ []
   pub few : b.count ≤ period
-  pub built : is_built period i ≡ exits_within i (period - b.count) b.guest
+  pub built : is_built period i input ≡ exits_within i (period - b.count) b.guest

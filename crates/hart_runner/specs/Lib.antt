@@ -1,3 +1,4 @@
 pub mod Built
 pub mod First
 pub mod Plans
+pub mod Standing

@@ -4,8 +4,9 @@
 mod asking;
 mod built;
 mod driven;
+mod harts;
+mod layouts;
 mod plan;
-mod serial;
 
 pub use built::run_built;
 pub use plan::Plan;
