@@ -1,38 +1,113 @@
-//! The top call over files and sinks in memory.
+//! What the tests call of the library, over the first guest's file and under the seed of zeros.
+ghost use Rattle.std.specs.Prelude.{◌≡◌, Some, IfOk, IfSome};
+ghost use Rattle.sh_types.specs.Runnable.{IsRunnable};
+ghost use Rattle.sh_types.specs.Thin.{thin_image};
+
+use elf_table::patches::first_file;
+use guest_image::load_image;
 use sh_base::{MemFiles, MemSink};
-use sh_types::{Bytes, Items, Name};
+use sh_types::{Bytes, FetchLog, Image, Items, LoadFault, Name, NoMemory};
 use shuf_cli::{Done, serial_command};
+use shuf_machine::{Machine, MachineNo, Origin};
 use std::alloc::{AllocError, Global};
 use std::thread::Threads;
+use thin_image::classify;
+use thin_law::thin_images_are_fine;
 
-/// What a command gives: the answer, and what each sink gained.
-#[derive(Drop)]
-pub struct Answer {
-    pub done: Done,
-    pub out: Vec<u8>,
-    pub report: Vec<u8>,
-}
-
-/// Files that hold these bytes under this name.
-pub fn files_of(alloc: Global, name: &str, file: Vec<u8>) -> Result<MemFiles, AllocError> {
-    let mut names = Items::new(alloc);
-    names.push(Name::from_str(alloc, name)?)?;
-    let mut contents = Items::new(alloc);
-    contents.push(Bytes::from_vec(file))?;
-    Ok(MemFiles::new(alloc, names, contents, Items::new(alloc)))
-}
-
-/// A sink that fails at its first write, or at none.
-fn sink_of(alloc: Global, fails: bool) -> Result<MemSink, AllocError> {
-    let mut numbers = Items::new(alloc);
-    if fails {
-        numbers.push(0)?;
+/// The image of the file with these bytes; None where the file is refused or is not thin.
+#[tactic(auto, unfolding(sh_types::specs::Thin::thin_image))]
+fn read_thin<R: Threads + Sync>(
+    rt: &R,
+    alloc: Global,
+    bytes: &[u8],
+) -> Result<Option<Image>, NoMemory>
+    ensures is { IfOk result (λ found. found ≡ thin_image bytes.now) }
+    ensures runnable { IfOk result (λ found. IfSome found IsRunnable) }
+{
+    match load_image(rt, alloc, bytes) {
+        Ok(image) => classify(alloc, image),
+        Err(LoadFault::NoMemory) => Err(NoMemory),
+        Err(_) => Ok(None),
     }
-    MemSink::new(alloc, 4096, numbers).map_err(|_| AllocError)
 }
 
-/// The top call under the seed of zeros. It says nothing of its own, so that what is proved of its callers stays small.
-fn top<R: Threads + Sync>(
+/// Runs at most 100 instructions of a hart of a new machine, and answers how many.
+fn run_image(
+    alloc: Global,
+    image: Image,
+    file: Bytes,
+    hart: u32,
+    log: &mut FetchLog,
+) -> Result<u64, MachineNo>
+    requires thin { thin_image file ≡ Some image }
+    requires runnable { IsRunnable image }
+{
+    let origin = Origin {
+        file,
+        input: Bytes::new(alloc),
+        seed: [0; 32],
+    };
+    thin_images_are_fine();
+    let Ok(mut machine) = Machine::new(alloc, image, origin) else {
+        return Err(MachineNo::NoMemory);
+    };
+    if machine.count() > 0 {
+        return Ok(0);
+    }
+    machine.run_direct(hart, 100, log)
+}
+
+/// The same of the first guest; 0 where its file is not thin.
+pub fn run_first<R: Threads + Sync>(
+    rt: &R,
+    alloc: Global,
+    hart: u32,
+    log: &mut FetchLog,
+) -> Result<u64, MachineNo> {
+    let Ok(bytes) = first_file(alloc) else {
+        return Err(MachineNo::NoMemory);
+    };
+    let file = Bytes::from_vec(bytes);
+    match read_thin(rt, alloc, file.as_slice()) {
+        Ok(Some(image)) => run_image(alloc, image, file, hart, log),
+        Ok(None) => Ok(0),
+        Err(NoMemory) => Err(MachineNo::NoMemory),
+    }
+}
+
+/// The call with this number, or none where there is no number.
+fn numbers_of(alloc: Global, number: Option<u64>) -> Result<Items<u64>, AllocError> {
+    let mut numbers = Items::new(alloc);
+    if let Some(number) = number {
+        numbers.push(number)?;
+    }
+    Ok(numbers)
+}
+
+/// Files that hold the first guest's file as `a.elf`. The call with the number fails, if there is one.
+pub fn first_files(alloc: Global, fails: Option<u64>) -> Result<MemFiles, AllocError> {
+    let mut names = Items::new(alloc);
+    names.push(Name::from_str(alloc, "a.elf")?)?;
+    let mut contents = Items::new(alloc);
+    contents.push(Bytes::from_vec(first_file(alloc)?))?;
+    Ok(MemFiles::new(alloc, names, contents, numbers_of(alloc, fails)?))
+}
+
+/// An empty sink. The write with the number fails, if there is one.
+pub fn sink_of(alloc: Global, fails: Option<u64>) -> Result<MemSink, AllocError> {
+    MemSink::new(alloc, 4096, numbers_of(alloc, fails)?).map_err(|_| AllocError)
+}
+
+pub fn words_of(alloc: Global, words: &[&str]) -> Result<Vec<String>, AllocError> {
+    let mut texts = Vec::new(alloc);
+    for word in words {
+        texts.push(String::from_str(alloc, word)?)?;
+    }
+    Ok(texts)
+}
+
+/// The top call. It says nothing of its own, so that its callers stay small.
+pub fn top<R: Threads + Sync>(
     rt: &R,
     alloc: Global,
     words: &[String],
@@ -41,26 +116,4 @@ fn top<R: Threads + Sync>(
     report: &mut MemSink,
 ) -> Done {
     serial_command(rt, alloc, words, files, out, report, &[0; 32])
-}
-
-/// What a command gives over these files, and an output that fails or not.
-pub fn call<R: Threads + Sync>(
-    rt: &R,
-    alloc: Global,
-    words: &[&str],
-    files: &mut MemFiles,
-    fails: bool,
-) -> Result<Answer, AllocError> {
-    let mut texts = Vec::new(alloc);
-    for word in words {
-        texts.push(String::from_str(alloc, word)?)?;
-    }
-    let mut out = sink_of(alloc, fails)?;
-    let mut report = sink_of(alloc, false)?;
-    let done = top(rt, alloc, &texts, files, &mut out, &mut report);
-    Ok(Answer {
-        done,
-        out: Vec::from_slice(alloc, out.content())?,
-        report: Vec::from_slice(alloc, report.content())?,
-    })
 }

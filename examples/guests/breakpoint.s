@@ -1,0 +1,5 @@
+# Executes EBREAK.
+.entry start
+.func start
+    ebreak
+.endfunc

@@ -1,0 +1,5 @@
+# The entry calls itself.
+.entry start
+.func start
+    jal ra, start
+.endfunc

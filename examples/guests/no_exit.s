@@ -1,0 +1,5 @@
+# Runs past its end.
+.entry start
+.func start
+    li a0, 5
+.endfunc

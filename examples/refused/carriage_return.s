@@ -1,0 +1,5 @@
+# A byte that is no printable character, tab or line feed.
+.entry f
+.func f
+    ret
+.endfunc

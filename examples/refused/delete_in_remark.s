@@ -1,0 +1,5 @@
+# The same in a remark.
+.entry f
+.func f
+    ret # 
+.endfunc

@@ -1,0 +1,2 @@
+# An entry that is no function.
+.entry start

@@ -1,0 +1,5 @@
+# A statement that there is none of.
+.entry f
+.func f
+    frob a0
+.endfunc

@@ -1,0 +1,4 @@
+# A function without an end.
+.entry start
+.func start
+    ret
