@@ -1,5 +1,5 @@
 -- What the machines read and how wide is what the manual's table says.
-use Rattle.std.proofs.Common.{◌≡◌, ◌⊎◌, inl, inr, ℕ, Bool, true, false, Option, Some, None, refl, sym, ap, ◌∙◌, subst, arith}
+use Rattle.std.proofs.Common.{◌≡◌, ◌⊎◌, inl, inr, ℕ, Bool, true, false, Option, Some, None, refl, sym, ap, ◌∙◌, arith}
 use Rattle.std.specs.Prelude.{slice_index, not, ◌==◌, ◌&&◌, ◌||◌, ◌<◌, if◌then◌else◌}
 use Rattle.std.specs.Option.{option_map}
 use Rattle.std.proofs.lemmas.Bool.Decides.{nat_tests}
@@ -18,10 +18,9 @@ use Rattle.sh_types.specs.Decoding.{decoded, op_in, read}
 use Rattle.sh_types.specs.Fine.{IsFine, SiteFits}
 use Rattle.sh_types.specs.Image.{sizes_of, word_at, site_at, row_at}
 use Rattle.sh_types.specs.Instruction.{Form, row_of}
-use Rattle.sh_types.specs.Instruction.Form.{Upper, Jump, Branch, Immediate, Storing, Register, Shift6, Shift5, Atomic, Reserving, Fencing, Whole}
+use Rattle.sh_types.specs.Instruction.Form.{Upper, Branch, Storing, Register, Atomic}
 use Rattle.sh_types.specs.Kind.{Kind, Sets, Computes, Passes, Loads, Stores, Atomics, Saves, Restores, CallsTo, JumpsTo, Branches, CallsThrough, JumpsThrough, GoesBack, Asks, Breaks, Illegal, Past, opcode_of, is_system, plain_kind, framed_kind, word_kind, kind_at}
 use Rattle.sh_types.specs.Operands.{is_register, reads_ra, both_ra, width_of, is_lr}
-use Rattle.sh_types.specs.Place.{pair}
 use Rattle.sh_types.specs.Uses.{reads_rs1, reads_rs2, is_reserving, has_operand, bytes_of}
 
 -- ---- the table

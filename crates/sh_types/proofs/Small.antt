@@ -5,9 +5,9 @@ use Rattle.sh_types.specs.declared.instructions.Op.TheVariants.{Sd, ScW, ScD}
 use Rattle.sh_types.specs.Decoding.{made}
 use Rattle.sh_types.specs.Environment.{Reads, call_of}
 use Rattle.sh_types.specs.Kind.{Stores, Atomics}
-use Rattle.sh_types.specs.Memory.{each_from, readable, writable, bytes_from}
-use Rattle.sh_types.specs.Need.{Goes, Puts, part_of, with_part, shares, stored_at}
-use Rattle.sh_types.specs.Operands.{width_of, taken_as}
+use Rattle.sh_types.specs.Memory.{each_from, writable, bytes_from}
+use Rattle.sh_types.specs.Need.{Goes, Puts, with_part, shares, stored_at}
+use Rattle.sh_types.specs.Operands.{width_of}
 use Rattle.sh_types.specs.Small.{small_memory, holder, made_by, short_read}
 use Rattle.sh_types.specs.Unmoved.{Number, reserves, steps, set_thread, threads_lose, new_thread}
 
