@@ -73,8 +73,7 @@ module _ (name : List ℕ) (limit : ℕ) (next : List ℕ → Row) (files files'
           let short = readable.short in
           let fits : nat_lt limit (length bytes) ≡ false = grind (arith, nat_tests, ap length whole, short) in
           let on : comes_to (next bytes) rest ≡ Some due =
-          subst (λ t. (if t then at_end rest (too_long_due name limit) else comes_to (next bytes) rest) ≡ Some due) fits e in
-          (
+          subst (λ t. (if t then at_end rest (too_long_due name limit) else comes_to (next bytes) rest) ≡ Some due) fits e in (
             rest,
             (λ i. (record { name = named i; bytes = (is ∙ ap Some whole) i }) ∷ rest),
             subst (λ b. comes_to (next b) rest ≡ Some due) whole on,

@@ -58,9 +58,9 @@ fn keep<F: Files>(
 ) -> Result<Option<Due>, NoMemory>
     ensures kept { IfOk result (λ instead. MatchOption instead
         (IsStored store.now (record { held = F.held files.old; faults = F.faults files.old; answered = F.answered files.old })
-            (record { held = F.held files.new; faults = F.faults files.new; answered = F.answered files.new }))
+        (record { held = F.held files.new; faults = F.faults files.new; answered = F.answered files.new }))
         (λ due. IsSomeAnd store.now (λ (s : FileStore). IsUnstored s (record { held = F.held files.old; faults = F.faults files.old; answered = F.answered files.old })
-            (record { held = F.held files.new; faults = F.faults files.new; answered = F.answered files.new }) × (due ≡ unstored_due s)))) }
+        (record { held = F.held files.new; faults = F.faults files.new; answered = F.answered files.new }) × (due ≡ unstored_due s)))) }
     ensures memory { OnErr result (F.held files.new ≡ F.held files.old) }
     ensures answered { F.answered files.new ≡ F.answered files.old }
     ensures grown { Grows (record { held = F.held files.old; faults = F.faults files.old; answered = F.answered files.old })

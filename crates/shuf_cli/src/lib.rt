@@ -18,8 +18,8 @@ mod words;
 
 pub use due::{Done, Due, FileOr, FileStore};
 pub use laws::{answers_are_said, dues_are_said, held_files_are_loaded};
-pub use pace::runs_keep_pace;
 pub use main_call::shuffler_main;
+pub use pace::runs_keep_pace;
 pub use top::serial_command;
 pub use words::{Command, Opts, WordFault, read_words};
 

@@ -26,13 +26,7 @@ fn status_of(end: Option<End>) -> u8
     ensures { result ≡ run_status end }
 {
     match end {
-        Some(End::Exit { code }) => {
-            if code > 0 {
-                1
-            } else {
-                0
-            }
-        }
+        Some(End::Exit { code }) => { if code > 0 { 1 } else { 0 } }
         Some(End::Trapped { .. }) => 2,
         Some(End::Leak { .. }) => 3,
         None => 4,

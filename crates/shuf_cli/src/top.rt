@@ -3,9 +3,9 @@ ghost use Rattle.std.specs.Prelude.{◌≡◌, None};
 ghost use Rattle.shuf_cli.specs.Words.{texts, command_of};
 ghost use Rattle.shuf_cli.specs.Headline.{Answered};
 
+use crate::Done;
 use crate::deliver::deliver;
 use crate::rows::make_due;
-use crate::Done;
 use sh_base::{Files, Sink};
 use sh_types::NoMemory;
 use std::alloc::Global;
