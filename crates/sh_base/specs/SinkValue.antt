@@ -1,15 +1,21 @@
 -- What a sink in memory stands for, and what a write answers and leaves.
-use Rattle.std.specs.Prelude.{◌≡◌, ◌⊎◌, ℕ, ◌+◌, ◌-◌, ◌≤◌, List, [], ◌++◌, length, take, Contains, Ok, Err, Result}
+use Rattle.std.specs.Prelude.{◌≡◌, ◌⊎◌, ℕ, ◌+◌, ◌-◌, ◌≤◌, List, [], ◌∷◌, ◌++◌, length, take, Contains, Ok, Err, Result}
 use Rattle.sh_base.specs.Faults.{next_count}
 
 -- the bytes written, how often a write failed, how many writes there were, the numbers of those that are to fail,
--- and how many bytes there is room for
+-- how many bytes there is room for, and the pieces that were taken whole
 pub record SinkValue : Type 0 where
   pub written : List ℕ
   pub faults : ℕ
   pub calls : ℕ
   pub fails : List ℕ
   pub room : ℕ
+  pub taken : List (List ℕ)
+
+-- how often a write of a sink over the system failed, and the pieces that it took whole
+pub record RealSinkValue : Type 0 where
+  pub faults : ℕ
+  pub taken : List (List ℕ)
 
 -- the next write is to fail
 abbrev pub IsToFail : SinkValue → Type 0
@@ -34,7 +40,7 @@ faulted sink bytes = record (counted sink bytes) { faults = next_count sink.faul
 -- A write fails exactly where it is to fail, and then writes nothing, or where the piece passes the room, and
 -- then writes what fits.
 abbrev pub WriteAnswers : {E : Type 0} → SinkValue → SinkValue → List ℕ → Result Unit E → Type 0
-WriteAnswers old new piece (Ok done) = ¬ IsToFail old × Fits old piece × (new ≡ counted old piece)
+WriteAnswers old new piece (Ok done) = ¬ IsToFail old × Fits old piece × (new ≡ record (counted old piece) { taken = old.taken ++ piece ∷ [] })
 WriteAnswers old new piece (Err failed) =
     (IsToFail old × (new ≡ faulted old []))
     ⊎ (¬ IsToFail old × ¬ Fits old piece × (new ≡ faulted old (fitting old piece)))

@@ -8,6 +8,7 @@ mod mem_sink;
 mod real_files;
 mod real_sink;
 mod sinks;
+mod told;
 
 pub use files::{FileCall, FileFault, FileWord, Files};
 pub use gates::{Gate, NoGate, Point};
@@ -16,3 +17,4 @@ pub use mem_sink::MemSink;
 pub use real_files::RealFiles;
 pub use real_sink::RealSink;
 pub use sinks::{Sink, SinkFailed};
+pub use told::{Answers, Pieces};

@@ -3,16 +3,17 @@ ghost use Rattle.std.specs.Prelude.{◌≡◌, ◌≢◌, ◌+◌, ◌<◌, ◌�
 ghost use Rattle.std.specs.FinMap as map;
 ghost use Rattle.sh_base.specs.Held.{as_map, Loads, StoreLeaves};
 ghost use Rattle.sh_base.specs.Faults.{HasFileCause};
+ghost use Rattle.sh_base.specs.Tells.{answered_after};
 ghost use Rattle.sh_base.specs.FilesValue.{LoadAnswers, StoreAnswers};
 ghost use Rattle.sh_base.specs.Distinct.{AreDistinct};
 
-use crate::{FileCall, FileFault, FileWord, Files};
+use crate::{Answers, FileCall, FileFault, FileWord, Files};
 use sh_types::{Bytes, Items, Name};
 use std::alloc::{AllocError, Global};
 use std::marker::Model;
 
 /// Files in memory. They tell what they hold.
-#[derive(Debug, Drop)]
+#[derive(Drop)]
 pub struct MemFiles {
     alloc: Global,
     names: Vec<Name>,
@@ -20,6 +21,7 @@ pub struct MemFiles {
     fails: Items<u64>,
     calls: u64,
     failed: Vec<FileCall>,
+    answers: Answers,
 }
 
 impl Model for MemFiles {
@@ -31,7 +33,7 @@ impl Model for MemFiles {
 
     ghost coded = { files_code };
 
-    ghost view = { λ f. record { held = as_map f.names.items f.contents.items; faults = f.failed.items; calls = f.calls; fails = f.fails } };
+    ghost view = { λ f. record { held = as_map f.names.items f.contents.items; faults = f.failed.items; calls = f.calls; fails = f.fails; answered = f.answers.items } };
 
     ghost invariant = { λ f. length f.names.items ≡ length f.contents.items };
 }
@@ -47,7 +49,7 @@ impl MemFiles {
     ) -> MemFiles
         requires distinct { AreDistinct names }
         requires as_many { length names ≡ length contents }
-        ensures { result ≡ record { held = as_map names contents; faults = []; calls = 0; fails = fails } }
+        ensures { result ≡ record { held = as_map names contents; faults = []; calls = 0; fails = fails; answered = [] } }
     {
         MemFiles {
             alloc,
@@ -56,6 +58,7 @@ impl MemFiles {
             fails,
             calls: 0,
             failed: Vec::new(alloc),
+            answers: Answers::new(),
         }
     }
 
@@ -142,9 +145,12 @@ impl Files for MemFiles {
 
     ghost faults = { λ f. f.faults };
 
+    ghost answered = { λ f. f.answered };
+
     fn load(&mut self, name: &str, limit: u64) -> Result<Bytes, FileFault>
         ensures held { Some self.new.held ≡ Some self.old.held }
         ensures bytes { IfOk result (λ bytes. Loads (Some self.old.held) name.now limit bytes) }
+        ensures answered { self.new.answered ≡ answered_after self.old.answered name.now result }
         ensures cause { HasFileCause name.now FileWord.Load self.old.faults self.new.faults result }
         ensures exact { LoadAnswers self.old self.new name.now result }
     {
@@ -157,13 +163,19 @@ impl Files for MemFiles {
         self.failed.reserve(1)?;
         if self.fails.as_slice().contains(&number) {
             push_in_room(&mut self.failed, call);
+            self.answers.failed(name.as_bytes());
             return Err(FileFault::Failed);
         }
         let content = lookup(self.names.as_slice(), self.contents.as_slice(), name);
         match content {
-            Some(content) => Ok(front(self.alloc, content, limit)?),
+            Some(content) => {
+                let bytes = front(self.alloc, content, limit)?;
+                self.answers.gave(name.as_bytes(), bytes.as_slice());
+                Ok(bytes)
+            }
             None => {
                 push_in_room(&mut self.failed, call);
+                self.answers.failed(name.as_bytes());
                 Err(FileFault::Failed)
             }
         }
@@ -171,6 +183,7 @@ impl Files for MemFiles {
 
     fn store(&mut self, name: &str, bytes: &[u8]) -> Result<(), FileFault>
         ensures leaves { StoreLeaves (Some self.old.held) (Some self.new.held) name.now bytes.now result }
+        ensures answered { self.new.answered ≡ self.old.answered }
         ensures cause { HasFileCause name.now FileWord.Store self.old.faults self.new.faults result }
         ensures exact { StoreAnswers self.old self.new name.now bytes.now result }
     {

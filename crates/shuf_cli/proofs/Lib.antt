@@ -1,10 +1,7 @@
+pub mod Answering
+pub mod Answers
 pub mod Assembling
-pub mod Causes
-pub mod Commands
-pub mod Delivery
-pub mod Headline
-pub mod Loaded
-pub mod Making
-pub mod Outcome
+pub mod Dues
+pub mod Each
+pub mod Loading
 pub mod Readable
-pub mod Stored

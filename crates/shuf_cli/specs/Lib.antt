@@ -1,6 +1,11 @@
 pub mod Answer
-pub mod Answers
-pub mod Due
+pub mod Asked
+pub mod Dues
 pub mod Headline
+pub mod Limits
+pub mod Lines
+pub mod Rows
+pub mod Run
+pub mod Said
 pub mod Words
 pub mod Written

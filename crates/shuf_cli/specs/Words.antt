@@ -6,6 +6,7 @@ use Rattle.std.specs.declared.alloc.Global.{Global}
 use Rattle.shuf_cli.specs.declared.words.Command.{Command}
 use Rattle.shuf_cli.specs.declared.words.Command.TheVariants.{Run, Check, Asm}
 use Rattle.shuf_cli.specs.declared.words.Opts.{Opts}
+use Rattle.shuf_cli.specs.Limits.{default_period, default_quantum, default_steps, default_workers}
 
 -- two texts are one
 abbrev pub same : List ℕ → List ℕ → Bool
@@ -20,7 +21,7 @@ is_file_word word = nat_lt 0 (length word) && not (starts_with nat_eq word (code
 
 -- the options where the words give none
 abbrev pub default_opts : Opts
-default_opts = record { seed = None; period = 100000; quantum = 1000; steps = 100000000; workers = 4; serial = true; input = None; full = false }
+default_opts = record { seed = None; period = default_period; quantum = default_quantum; steps = default_steps; workers = default_workers; serial = true; input = None; full = false }
 
 -- `run FILE --serial`
 abbrev pub run_of : (verb file option : List ℕ) → Option Command

@@ -1,19 +1,22 @@
-//! Refusals: one line is due to the report.
-ghost use Rattle.std.specs.Prelude.{◌≡◌, ◌≢◌, IfOk, string_bytes};
+//! What is due where nothing else is: one line to the report, or a text to out.
+ghost use Rattle.std.specs.Prelude.{◌≡◌, ◌≢◌, IfOk, string_bytes, decimal};
 ghost use Rattle.image_text.specs.Lines.{fault_line, source_line as source_line_of};
-ghost use Rattle.shuf_cli.specs.Due.{usage_line, unreadable_line, unwritable_line, too_long_line, refused_line, line_due};
+ghost use Rattle.shuf_cli.specs.Dues.{line_due, text_due, usage_due, unreadable_due, too_long_due};
+ghost use Rattle.shuf_cli.specs.Lines.{unwritable_line, longer_front};
+ghost use Rattle.shuf_cli.specs.Run.{not_built_due};
 
 use crate::Due;
 use asm_text::AsmRule;
 use image_text::{refusal_line, source_line};
 use sh_types::{Bytes, LoadFault, NoMemory};
-use std::alloc::Global;
+use std::alloc::{AllocError, Global};
 
 /// A refusal: its line alone is due.
 pub fn refusal(status: u8, line: String) -> Due
     ensures { result ≡ line_due status (string_bytes line) }
 {
     Due {
+        store: None,
         out: None,
         report: Some(Bytes::from_vec(line.into_bytes())),
         status,
@@ -22,22 +25,36 @@ pub fn refusal(status: u8, line: String) -> Due
     }
 }
 
-#[tactic(auto, unfolding(crate::specs::Due::usage_line))]
+/// The text alone is due, to out.
+pub fn text(text: Bytes) -> Due
+    ensures { result ≡ text_due text }
+{
+    Due {
+        store: None,
+        out: Some(text),
+        report: None,
+        status: 0,
+        end: None,
+        machine: None,
+    }
+}
+
+#[tactic(auto, unfolding(crate::specs::Lines::usage_line))]
 pub fn usage(alloc: Global) -> Result<Due, NoMemory>
-    ensures { IfOk result (λ due. due ≡ line_due 10 usage_line) }
+    ensures { IfOk result (λ due. due ≡ usage_due) }
 {
     Ok(refusal(10, String::from_str(alloc, "shuffler: usage\n")?))
 }
 
-#[tactic(auto, unfolding(crate::specs::Due::unreadable_line))]
+#[tactic(auto, unfolding(crate::specs::Lines::unreadable_line))]
 pub fn unreadable(alloc: Global, name: &str) -> Result<Due, NoMemory>
-    ensures { IfOk result (λ due. due ≡ line_due 11 (unreadable_line name.now)) }
+    ensures { IfOk result (λ due. due ≡ unreadable_due name.now) }
 {
     let line = format!(in alloc; "shuffler: file {name} cannot be read\n")?;
     Ok(refusal(11, line))
 }
 
-#[tactic(auto, unfolding(crate::specs::Due::unwritable_line))]
+#[tactic(auto, unfolding(crate::specs::Lines::unwritable_line))]
 pub fn unwritable(alloc: Global, name: &str) -> Result<Due, NoMemory>
     ensures { IfOk result (λ due. due ≡ line_due 11 (unwritable_line name.now)) }
 {
@@ -45,17 +62,32 @@ pub fn unwritable(alloc: Global, name: &str) -> Result<Due, NoMemory>
     Ok(refusal(11, line))
 }
 
-#[tactic(auto, unfolding(crate::specs::Due::too_long_line))]
-pub fn too_long(alloc: Global, name: &str) -> Result<Due, NoMemory>
-    ensures { IfOk result (λ due. due ≡ line_due 11 (too_long_line name.now)) }
+fn digits(alloc: Global, number: u64) -> Result<String, AllocError>
+    ensures { IfOk result (λ text. string_bytes text ≡ decimal number) }
 {
-    let line = format!(in alloc; "shuffler: file {name} is longer than 16777216 bytes\n")?;
+    format!(in alloc; "{number}")
+}
+
+#[tactic(auto, unfolding(crate::specs::Lines::longer_front))]
+fn longer(alloc: Global, name: &str) -> Result<String, AllocError>
+    ensures { IfOk result (λ line. string_bytes line ≡ longer_front name.now) }
+{
+    format!(in alloc; "shuffler: file {name} is longer than ")
+}
+
+pub fn too_long(alloc: Global, name: &str, limit: u64) -> Result<Due, NoMemory>
+    ensures { IfOk result (λ due. due ≡ too_long_due name.now limit) }
+{
+    let mut line = longer(alloc, name)?;
+    let digits = digits(alloc, limit)?;
+    line.push_str(digits.as_str())?;
+    line.push_str(" bytes\n")?;
     Ok(refusal(11, line))
 }
 
-#[tactic(auto, unfolding(crate::specs::Due::refused_line))]
+#[tactic(auto, unfolding(crate::specs::Lines::not_built_line))]
 pub fn not_built(alloc: Global) -> Result<Due, NoMemory>
-    ensures { IfOk result (λ due. due ≡ line_due 12 refused_line) }
+    ensures { IfOk result (λ due. due ≡ not_built_due) }
 {
     let line = String::from_str(alloc, "shuffler: refused: not built\n")?;
     Ok(refusal(12, line))

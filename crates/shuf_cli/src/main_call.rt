@@ -20,12 +20,12 @@ pub fn shuffler_main<R: Threads + Wait + Sync, F: Files, O: Sink, E: Sink, G: Ga
     _gate: &G,
 ) -> Done
     ensures answer { Answered (command_of (texts words.now)) seed.now (record {
-      files = record { held = F.held files.old; faults = F.faults files.old };
-      files' = record { held = F.held files.new; faults = F.faults files.new };
-      out = record { written = O.written out.old; faults = O.faults out.old };
-      out' = record { written = O.written out.new; faults = O.faults out.new };
-      report = record { written = E.written report.old; faults = E.faults report.old };
-      report' = record { written = E.written report.new; faults = E.faults report.new };
+      files = record { held = F.held files.old; faults = F.faults files.old; answered = F.answered files.old };
+      files' = record { held = F.held files.new; faults = F.faults files.new; answered = F.answered files.new };
+      out = record { written = O.written out.old; taken = O.taken out.old; faults = O.faults out.old };
+      out' = record { written = O.written out.new; taken = O.taken out.new; faults = O.faults out.new };
+      report = record { written = E.written report.old; taken = E.taken report.old; faults = E.faults report.old };
+      report' = record { written = E.written report.new; taken = E.taken report.new; faults = E.faults report.new };
     }) result }
 {
     serial_command(rt, alloc, words, files, out, report, seed)

@@ -1,10 +1,11 @@
 //! The top call: all that the program does.
+ghost use Rattle.std.specs.Prelude.{◌≡◌, None};
 ghost use Rattle.shuf_cli.specs.Words.{texts, command_of};
-ghost use Rattle.shuf_cli.specs.Headline.{World, Answered};
-ghost use Rattle.shuf_cli.specs.Answers.{Answers};
+ghost use Rattle.shuf_cli.specs.Headline.{Answered};
 
-use crate::{Done, deliver, make_due};
-use pace_law::serial_lists_are_paced;
+use crate::Done;
+use crate::deliver::deliver;
+use crate::rows::make_due;
 use sh_base::{Files, Sink};
 use sh_types::NoMemory;
 use std::alloc::Global;
@@ -12,32 +13,14 @@ use std::thread::Threads;
 
 const NO_MEMORY: u8 = 14;
 
-/// Makes what is due and delivers it.
-fn answer_command<R: Threads + Sync, F: Files, O: Sink, E: Sink>(
-    rt: &R,
-    alloc: Global,
-    words: &[String],
-    files: &mut F,
-    out: &mut O,
-    report: &mut E,
-    seed: &[u8; 32],
-) -> Done
-    ensures answer { Answers (command_of (texts words.now)) seed.now (record {
-      files = record { held = F.held files.old; faults = F.faults files.old };
-      files' = record { held = F.held files.new; faults = F.faults files.new };
-      out = record { written = O.written out.old; faults = O.faults out.old };
-      out' = record { written = O.written out.new; faults = O.faults out.new };
-      report = record { written = E.written report.old; faults = E.faults report.old };
-      report' = record { written = E.written report.new; faults = E.faults report.new };
-    }) result }
+/// The answer where memory was refused.
+fn no_memory() -> Done
+    ensures { result ≡ record { status = 14; end = None; machine = None } }
 {
-    match make_due(rt, alloc, words, files, seed) {
-        Ok(due) => deliver(due, out, report),
-        Err(NoMemory) => Done {
-            status: NO_MEMORY,
-            end: None,
-            machine: None,
-        },
+    Done {
+        status: NO_MEMORY,
+        end: None,
+        machine: None,
     }
 }
 
@@ -57,14 +40,19 @@ pub fn serial_command<R: Threads + Sync, F: Files, O: Sink, E: Sink>(
     seed: &[u8; 32],
 ) -> Done
     ensures answer { Answered (command_of (texts words.now)) seed.now (record {
-      files = record { held = F.held files.old; faults = F.faults files.old };
-      files' = record { held = F.held files.new; faults = F.faults files.new };
-      out = record { written = O.written out.old; faults = O.faults out.old };
-      out' = record { written = O.written out.new; faults = O.faults out.new };
-      report = record { written = E.written report.old; faults = E.faults report.old };
-      report' = record { written = E.written report.new; faults = E.faults report.new };
+      files = record { held = F.held files.old; faults = F.faults files.old; answered = F.answered files.old };
+      files' = record { held = F.held files.new; faults = F.faults files.new; answered = F.answered files.new };
+      out = record { written = O.written out.old; taken = O.taken out.old; faults = O.faults out.old };
+      out' = record { written = O.written out.new; taken = O.taken out.new; faults = O.faults out.new };
+      report = record { written = E.written report.old; taken = E.taken report.old; faults = E.faults report.old };
+      report' = record { written = E.written report.new; taken = E.taken report.new; faults = E.faults report.new };
     }) result }
 {
-    serial_lists_are_paced();
-    answer_command(rt, alloc, words, files, out, report, seed)
+    let Ok(due) = make_due(rt, alloc, words, files, seed) else {
+        return no_memory();
+    };
+    match deliver(alloc, due, files, out, report) {
+        Ok(done) => done,
+        Err(NoMemory) => no_memory(),
+    }
 }

@@ -2,6 +2,7 @@
 ghost use Rattle.std.specs.Prelude.{◌≡◌, IfOk, IsErrOf, IsSome, None, Some};
 ghost use Rattle.shuf_cli.specs.Words.{texts, is_file_word, default_opts, run_of, asm_of, check_of, three_of, command_of};
 
+use crate::limits::{PERIOD, QUANTUM, STEPS, WORKERS};
 use sh_types::Name;
 use std::alloc::Global;
 
@@ -48,10 +49,10 @@ fn defaults() -> Opts
 {
     Opts {
         seed: None,
-        period: 100_000,
-        quantum: 1_000,
-        steps: 100_000_000,
-        workers: 4,
+        period: PERIOD,
+        quantum: QUANTUM,
+        steps: STEPS,
+        workers: WORKERS,
         serial: true,
         input: None,
         full: false,

@@ -5,7 +5,7 @@ use Rattle.std.specs.Prelude.{Some, None}
 use Rattle.std.specs.Io.KnownBytes.{Appends, Keeps}
 use Rattle.std.proofs.KnownBytes.{Appends-trans}
 use Rattle.sh_base.proofs.real_sink.write_whole.Goals as goal
-use Rattle.sh_base.proofs.real_sink.write_whole.Goals.{in-Ok-write, in-Err-write+else-ne}
+use Rattle.sh_base.proofs.real_sink.write_whole.Goals.{in-Ok-write, in-Err-write+else-ne+else-tries-ge-TRIES}
 
 moves_front : (all done rest : List ℕ) (n : ℕ) → all ≡ done ++ rest → all ≡ (done ++ take n rest) ++ take (length rest - n) (drop n rest)
 moves_front all done rest n e =
@@ -28,5 +28,5 @@ loop-preserved g c =
             moves_front _ done rest n split ∙ ap (λ r. (done ++ take n rest) ++ r.now) (sym w.rest-is),
             Appends-trans _ _ _ done (take n rest) appended w.in-Ok-write.ensures.bytes,
           )
-      | in-Err-write+else-ne w ↦ (done, split ∙ ap (λ r. done ++ r.now) (sym w.rest-is), kept _ _ _ done appended w.in-Err-write.ensures.bytes)
+      | in-Err-write+else-ne+else-tries-ge-TRIES w ↦ (done, split ∙ ap (λ r. done ++ r.now) (sym w.rest-is), kept _ _ _ done appended w.in-Err-write.ensures.bytes)
     ]

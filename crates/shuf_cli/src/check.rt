@@ -1,0 +1,38 @@
+//! What is due for a check of a file.
+ghost use Rattle.std.specs.Prelude.{◌≡◌, IfOk};
+ghost use Rattle.sh_types.specs.Accepted.{Accepts, mapped_by, loaded_image};
+ghost use Rattle.sh_types.specs.Coded.{IsCoded};
+ghost use Rattle.sh_types.specs.Elf.{segments_of};
+ghost use Rattle.image_text.specs.Listing.{listing_of};
+ghost use Rattle.shuf_cli.specs.Dues.{text_due};
+ghost use Rattle.shuf_cli.specs.Rows.{check_due};
+
+use crate::Due;
+use crate::lines::{refused, text};
+use guest_image::{load_image, mapped_bytes};
+use image_text::listing;
+use sh_types::{Image, LoadFault, NoMemory};
+use std::alloc::Global;
+use std::thread::Threads;
+
+/// The text that lists the image of the file is due.
+fn listed(alloc: Global, image: &Image, file: &[u8]) -> Result<Due, NoMemory>
+    requires accepted { Accepts file.now }
+    requires image { image.now ≡ loaded_image file.now }
+    requires coded { IsCoded image.now }
+    ensures { IfOk result (λ due. due ≡ text_due (listing_of (loaded_image file.now) (mapped_by (segments_of file.now)))) }
+{
+    let mapped = mapped_bytes(alloc, file)?;
+    Ok(text(listing(alloc, image, mapped)?))
+}
+
+/// What is due for a check of the file.
+pub fn of_check<R: Threads + Sync>(rt: &R, alloc: Global, file: &[u8]) -> Result<Due, NoMemory>
+    ensures { IfOk result (λ due. due ≡ check_due file.now) }
+{
+    match load_image(rt, alloc, file) {
+        Ok(image) => listed(alloc, &image, file),
+        Err(LoadFault::NoMemory) => Err(NoMemory),
+        Err(fault) => refused(alloc, fault),
+    }
+}
