@@ -77,6 +77,11 @@ emptied p q c e =
       keeps = in_pace_then p q (migrations (pace_of p).behind) c (moves_keep (image_in p) c.period (pace_of p).behind (pace_of p)) e;
     }
 
+-- the erasure is still to come
+pub erase_left : (p q r : Past) (es : List Event) → Still p es q (migrations (pace_of q).behind ++ Erase ((pace_of q).newest - 1) ∷ []) → Emptied q r → r ≡ with_events q (migrations (pace_of q).behind) → Still p es r (Erase ((pace_of r).newest - 1) ∷ [])
+erase_left p q r es s m e =
+    subst (λ (x : Pace). Still p es r (Erase (x.newest - 1) ∷ [])) (sym m.pace) (still_on p q r es (migrations (pace_of q).behind) (Erase ((pace_of q).newest - 1) ∷ []) s e)
+
 -- ---- the older layout goes
 
 pub clearing : (p : Past) → (pace_of p).older ≡ true → Still p (cleared_away (pace_of p)) p (migrations (pace_of p).behind ++ Erase ((pace_of p).newest - 1) ∷ [])

@@ -2,14 +2,20 @@
 use Rattle.std.proofs.Common.{◌≡◌, ℕ, ◌+◌, ◌-◌, ◌*◌, ◌^◌, ◌≤◌, ◌<◌, true, false, List, ◌++◌, refl, sym, ap, ◌∙◌, subst, arith, append-nil, mul-le-mul_right}
 use Rattle.sh_types.specs.declared.code.Image.{Image}
 use Rattle.sh_types.specs.declared.runs.Event.{Event}
+use Rattle.sh_types.specs.Fine.{IsSetting}
 use Rattle.sh_types.specs.Pace.{Pace, followed, all_keep, IsPaced}
 use Rattle.sh_types.specs.Serial.{Schedule, turn, turn_in, ready, next_hart, turn_limit, is_done, serial_from}
 use Rattle.sh_types.specs.Unmoved.{Unmoved, goes_still, can_go}
+use Rattle.sh_law.specs.Paced.{StandsPaced}
+use Rattle.sh_law.proofs.Ciphers.{is_cipher}
+use Rattle.sh_law.proofs.Pacing.{paced_stands}
 use Rattle.pace_law.specs.Step.{InStep}
 use Rattle.pace_law.proofs.Periods.{serial_paced}
 use Rattle.pace_law.proofs.Serials.{turn_goes, ready_goes, turn_short, turn_few, turn_is, Readied}
-use Rattle.shuf_machine.specs.Past.{Past}
+use Rattle.shuf_machine.specs.Past.{Past, state_of}
+use Rattle.shuf_machine.specs.Run.{setting_of, IsLegal}
 use Rattle.hart_runner.specs.Standing.{image_in, pace_of, with_events, Still, IsPart}
+use Rattle.hart_runner.proofs.Behind.{journal_paces}
 use Rattle.hart_runner.proofs.Boundaries.{paced_then}
 use Rattle.hart_runner.proofs.Rounds.{Serving, Served, serving_first, serving_on, going}
 use Rattle.hart_runner.proofs.Stills.{pace_then}
@@ -21,12 +27,22 @@ KeepsPace period p = IsPaced (image_in p) p.origin.input period p.journal
 abbrev pub all_of : Schedule → Past → List Event
 all_of s p = serial_from (image_in p) s (pace_of p)
 
+-- where a machine may begin
+pub record Begins (s : Schedule) (p : Past) : Type 0 where
+  pub step : InStep s.period (pace_of p)
+  pub few : (pace_of p).count ≤ s.steps
+
+pub begins : (s : Schedule) (p : Past) → IsSetting (setting_of p.origin) → IsLegal p.origin p.journal → KeepsPace s.period p → (state_of p).count ≤ s.steps → Begins s p
+begins s p set legal k f =
+    let stands : StandsPaced (state_of p) (pace_of p) = paced_stands is_cipher (setting_of p.origin) set s.period p.journal legal k in
+    record { step = (journal_paces (setting_of p.origin) s.period p.journal set legal k).step; few = omega (arith, stands.count, f) }
+
 pub record Running (s : Schedule) (p q : Past) (low : ℕ) : Type 0 where
   pub serving : Serving p s (all_of s p) q low
   pub paced : KeepsPace s.period q
 
-pub running_first : (s : Schedule) (p : Past) → KeepsPace s.period p → InStep s.period (pace_of p) → (pace_of p).count ≤ s.steps → Running s p p 0
-running_first s p k t f = record { serving = serving_first p s t f; paced = k }
+pub running_first : (s : Schedule) (p : Past) → KeepsPace s.period p → Begins s p → Running s p p 0
+running_first s p k b = record { serving = serving_first p s b.step b.few; paced = k }
 
 keeps_then : (period : ℕ) (p q : Past) (es : List Event) → KeepsPace period p → all_keep (image_in p) period es (pace_of p) ≡ true → q ≡ with_events p es → KeepsPace period q
 keeps_then period p q es k l e = subst (KeepsPace period) (sym e) (paced_then (image_in p) p.origin.input period p.journal es k l)
@@ -81,7 +97,7 @@ running_on s p q r q' low h m v l qq small d er eh em can eq =
     record { running = record { serving = sv.serving; paced = keeps_then s.period r q' (turn (image_in r) h m (pace_of r)) t.paced k eq }; more = sv.more }
 
 -- cut anywhere, the journal keeps pace
-pub cut_paced : (s : Schedule) (p q : Past) → KeepsPace s.period p → 1 ≤ s.period → InStep s.period (pace_of p) → (pace_of p).count ≤ s.steps → IsPart (all_of s p) p q → KeepsPace s.period q
-cut_paced s p q k l t f w =
-    let j : IsPaced (image_in p) p.origin.input s.period q.journal = serial_paced (image_in p) p.origin.input s p.journal q.journal w.rest k l t f w.still.is in
+pub cut_paced : (s : Schedule) (p q : Past) → KeepsPace s.period p → 1 ≤ s.period → Begins s p → IsPart (all_of s p) p q → KeepsPace s.period q
+cut_paced s p q k l b w =
+    let j : IsPaced (image_in p) p.origin.input s.period q.journal = serial_paced (image_in p) p.origin.input s p.journal q.journal w.rest k l b.step b.few w.still.is in
     subst (λ o. KeepsPace s.period (record { origin = o; journal = q.journal })) (sym w.still.origin) j

@@ -7,6 +7,8 @@ mod driven;
 mod harts;
 mod layouts;
 mod plan;
+mod serial;
 
 pub use built::run_built;
 pub use plan::Plan;
+pub use serial::run_serial;
