@@ -24,7 +24,7 @@ use Rattle.shuf_cli.specs.Dues.{line_due, text_due, store_due, unreadable_due, t
 use Rattle.shuf_cli.specs.Limits.{default_period}
 use Rattle.shuf_cli.specs.Lines.{usage_line, not_built_line}
 use Rattle.shuf_cli.specs.Rows.{row_of, comes_to, unless_refused, unless_faulty}
-use Rattle.shuf_cli.specs.Run.{run_status, ran_due, past_of, thin_due, accepted_due, HasExited}
+use Rattle.shuf_cli.specs.Run.{run_status, ran_due, past_of, thin_due, accepted_due, HasExited, no_input}
 use Rattle.shuf_cli.specs.Said.{DueIsSaid}
 use Rattle.shuf_cli.proofs.Each.{EachDue, each}
 
@@ -37,7 +37,7 @@ module _ (P : Due → Type 0) (lines : (line : List ℕ) → P (line_due 12 line
 
   of_thin : (image : Option Image) (file seed : List ℕ) → P (thin_due image file seed)
   of_thin None file seed = lines not_built_line
-  of_thin (Some image) file seed = of_built (is_built default_period (image_of file)) (past_of file seed)
+  of_thin (Some image) file seed = of_built (is_built default_period (image_of file) no_input) (past_of file seed)
 
   of_refusal : (refusal : Option LoadFault) (due : Due) → P due → P (unless_refused refusal due)
   of_refusal None due p = p

@@ -20,13 +20,17 @@ use Rattle.shuf_cli.specs.Lines.{not_built_line}
 abbrev pub schedule : Schedule
 schedule = record { period = default_period; quantum = default_quantum; steps = default_steps }
 
--- where a run of the file comes from: its input is empty
+-- the input of each run
+abbrev pub no_input : List ℕ
+no_input = []
+
+-- where a run of the file comes from
 abbrev pub origin_of : (file seed : List ℕ) → Origin
-origin_of file seed = record { file = file; input = []; seed = seed }
+origin_of file seed = record { file = file; input = no_input; seed = seed }
 
 -- what a run of the file leaves: the journal is that of the serial order
 abbrev pub past_of : (file seed : List ℕ) → Past
-past_of file seed = record { origin = origin_of file seed; journal = serial_list (image_of file) schedule }
+past_of file seed = record { origin = origin_of file seed; journal = serial_list (image_of file) no_input schedule }
 
 -- the short report on a run
 abbrev pub report_of : Past → List ℕ
@@ -55,7 +59,7 @@ not_built_due = line_due 12 not_built_line
 
 -- the unmoved machine comes to an exit with what is built, and the run is made
 abbrev pub built_due : (file seed : List ℕ) → Due
-built_due file seed = if is_built default_period (image_of file) then ran_due (past_of file seed) else not_built_due
+built_due file seed = if is_built default_period (image_of file) no_input then ran_due (past_of file seed) else not_built_due
 
 -- of an accepted file: a thin one alone is run
 abbrev pub thin_due : Option Image → (file seed : List ℕ) → Due
