@@ -86,10 +86,10 @@ Apart [] = Unit {0}
 Apart (k ∷ ks) = (is_among k ks ≡ false) × Apart ks
 
 -- what one of them is
-abbrev IsIn : List Thread → ℕ → ℕ → Type 0
+abbrev pub IsIn : List Thread → ℕ → ℕ → Type 0
 IsIn ts base n = (j : ℕ) × (t : Thread) × (n ≡ base + j) × (slice_get ts j ≡ Some t) × (t.live ≡ true)
 
-among_live : (ts : List Thread) (base n : ℕ) → is_among n (live_from base ts) ≡ true → IsIn ts base n
+pub among_live : (ts : List Thread) (base n : ℕ) → is_among n (live_from base ts) ≡ true → IsIn ts base n
 among_live [] base n e = absurd (cc)
 among_live (x ∷ ts) base n e = by x.live refl (among_live ts (base + 1) n) e
   where
