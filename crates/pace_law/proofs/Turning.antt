@@ -15,6 +15,7 @@ use Rattle.sh_law.proofs.Trailing.{IsIn, among_live}
 use Rattle.pace_law.proofs.Alive.{StillLive}
 use Rattle.pace_law.proofs.Bools.{and_first, and_second, both_true}
 use Rattle.pace_law.proofs.Length.{length_few, length_some}
+use Rattle.pace_law.proofs.Serials.{same_test}
 
 pub lt_of : (n : ℕ) → 1 ≤ n → nat_lt 0 n ≡ true
 lt_of n l = grind (arith, nat_tests)
@@ -121,9 +122,6 @@ turn_may i h (suc k) left b = by (nat_lt 0 left && can_go b.guest h) refl (turn_
     by false e ih = refl
 
 -- ---- the next hart
-
-same_test : (n : ℕ) → (n == n) ≡ true
-same_test n = grind (arith, nat_tests)
 
 next_is : (low : ℕ) (ns : List ℕ) (d : ℕ) → (next_from low ns d ≡ d) ⊎ (is_among (next_from low ns d) ns ≡ true)
 next_is low [] d = inl refl
