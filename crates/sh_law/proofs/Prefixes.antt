@@ -1,5 +1,6 @@
 -- Lists of events that are one list after another.
-use Rattle.std.proofs.Common.{◌≡◌, ℕ, Bool, true, List, [], ◌∷◌, ◌++◌, refl, arith}
+use Rattle.std.proofs.Common.{◌≡◌, ℕ, Bool, true, List, [], ◌∷◌, ◌++◌, refl, sym, subst, arith, append_assoc}
+use Rattle.std.proofs.lemmas.List.{append-nil}
 use Rattle.std.specs.Prelude.{◌&&◌}
 use Rattle.sh_types.specs.declared.code.Image.{Image}
 use Rattle.sh_types.specs.declared.runs.Event.{Event}
@@ -78,3 +79,17 @@ paced_before i input p es fs k = keep_first i p es fs (opening_pace i input) k
 pub paced_after : (i : Image) (input : List ℕ) (p : ℕ) (es fs : List Event) → IsPaced i input p (es ++ fs) → all_keep i p fs (pace_after i input es) ≡ true
 unfolding pace_after IsPaced
 paced_after i input p es fs k = keep_rest i p es fs (opening_pace i input) k
+
+-- ---- along a journal
+
+-- what holds at first, and of a journal with one event more, holds of each legal, paced journal
+pub by_prefix : (o : Setting) (period : ℕ) (P : List Event → Type 0) → P [] → ((es : List Event) (e : Event) → IsLegalIn o (es ++ e ∷ []) → IsPaced o.image o.input period (es ++ e ∷ []) → P es → P (es ++ e ∷ [])) → (es : List Event) → IsLegalIn o es → IsPaced o.image o.input period es → P es
+by_prefix o period P first more es l p = rest es [] l p first
+  where
+    rest : (fs es : List Event) → IsLegalIn o (es ++ fs) → IsPaced o.image o.input period (es ++ fs) → P es → P (es ++ fs)
+    rest [] es l p w = subst P (sym (append-nil es)) w
+    rest (e ∷ fs) es l p w =
+        let q : (es ++ e ∷ []) ++ fs ≡ es ++ e ∷ fs = append_assoc es (e ∷ []) fs in
+        let l' = subst (IsLegalIn o) (sym q) l in
+        let p' = subst (IsPaced o.image o.input period) (sym q) p in
+        subst P q (rest fs (es ++ e ∷ []) l' p' (more es e (legal_before o (es ++ e ∷ []) fs l') (paced_before o.image o.input period (es ++ e ∷ []) fs p') w))

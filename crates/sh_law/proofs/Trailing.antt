@@ -1,6 +1,5 @@
 -- In a paced journal that is legal the harts that are behind are live, and not on the newest layout.
-use Rattle.std.proofs.Common.{◌≡◌, ◌≢◌, ◌⊎◌, inl, inr, ℕ, zero, suc, ◌+◌, ◌<◌, ◌≤◌, Bool, true, false, Option, Some, None, List, [], ◌∷◌, ◌++◌, replicate, length, refl, sym, ap, ◌∙◌, subst, arith, append_assoc}
-use Rattle.std.proofs.lemmas.List.{append-nil}
+use Rattle.std.proofs.Common.{◌≡◌, ◌≢◌, ◌⊎◌, inl, inr, ℕ, zero, suc, ◌+◌, ◌<◌, ◌≤◌, Bool, true, false, Option, Some, None, List, [], ◌∷◌, ◌++◌, replicate, length, refl, sym, ap, ◌∙◌, subst, arith}
 use Rattle.std.specs.Prelude.{slice_get, slice_set, not, ◌==◌, ◌&&◌, ◌||◌, nat_lt, if◌then◌else◌}
 use Rattle.std.proofs.lemmas.Bool.Decides.{nat_tests}
 use Rattle.sh_types.specs.declared.code.Image.{Image}
@@ -20,7 +19,7 @@ use Rattle.sh_law.specs.Keeps.{IsCipher}
 use Rattle.sh_law.specs.Paced.{AreOn, StandsPaced}
 use Rattle.sh_law.specs.Sound.{IsOn, HartsOn, Stays}
 use Rattle.sh_law.proofs.Lists.{and_first, and_second, eq_of, not_true, GetStands, get_stands, get_at, get_off, get_map, get_before, OptionOn, get_on}
-use Rattle.sh_law.proofs.Prefixes.{state_more, legal_before, legal_after, pace_more, paced_before, paced_after}
+use Rattle.sh_law.proofs.Prefixes.{state_more, legal_before, legal_after, pace_more, paced_after, by_prefix}
 use Rattle.sh_law.proofs.Pacing.{paced_stands, guest_stands}
 use Rattle.sh_law.proofs.Stepping.{one_stands, runs_in_both}
 use Rattle.sh_law.proofs.Whole.{law}
@@ -228,17 +227,8 @@ module _ (cipher : IsCipher) (o : Setting) (fi : IsSetting o) where
       let r = event_behind period e (state_after o es) (unmoved_run o.image o.input (written es)) (pace_after o.image o.input es) (law cipher o es fi k) (guest_stands o es) (legal_after o es (e ∷ []) l).0 (and_first _ _ (paced_after o.image o.input period es (e ∷ []) p)) w in
       subst (λ s. AreBehind s (pace_after o.image o.input (es ++ e ∷ []))) (sym (state_more o es (e ∷ []))) (subst (AreBehind (after_event o e (state_after o es))) (sym (pace_more o.image o.input es (e ∷ []))) r)
 
-  list_behind : (period : ℕ) (fs es : List Event) → IsLegalIn o (es ++ fs) → IsPaced o.image o.input period (es ++ fs) → AreBehind (state_after o es) (pace_after o.image o.input es) → AreBehind (state_after o (es ++ fs)) (pace_after o.image o.input (es ++ fs))
-  list_behind period [] es l p w = subst (λ x. AreBehind (state_after o x) (pace_after o.image o.input x)) (sym (append-nil es)) w
-  list_behind period (e ∷ fs) es l p w =
-      let q : (es ++ e ∷ []) ++ fs ≡ es ++ e ∷ fs = append_assoc es (e ∷ []) fs in
-      let l' = subst (IsLegalIn o) (sym q) l in
-      let p' = subst (IsPaced o.image o.input period) (sym q) p in
-      let w' = one_more period es e (legal_before o (es ++ e ∷ []) fs l') (paced_before o.image o.input period (es ++ e ∷ []) fs p') w in
-      subst (λ x. AreBehind (state_after o x) (pace_after o.image o.input x)) q (list_behind period fs (es ++ e ∷ []) l' p' w')
-
   pub behind_stand : (period : ℕ) (es : List Event) → IsLegalIn o es → IsPaced o.image o.input period es → AreBehind (state_after o es) (pace_after o.image o.input es)
-  behind_stand period es l p = list_behind period es [] l p (opens o)
+  behind_stand period es l p = by_prefix o period (λ fs. AreBehind (state_after o fs) (pace_after o.image o.input fs)) (opens o) (one_more period) es l p
 
   -- ---- what may come
 

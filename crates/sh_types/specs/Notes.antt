@@ -5,14 +5,30 @@ use Rattle.sh_types.specs.declared.runs.Hart.{Hart}
 use Rattle.sh_types.specs.declared.runs.Stored.{Stored}
 use Rattle.sh_types.specs.Copy.{copied}
 use Rattle.sh_types.specs.Kind.{tables_of}
-use Rattle.sh_types.specs.Need.{Outcome, Goes, Puts, Calls, Quits, Traps, Leaks, Need, answered, touched, set_at}
+use Rattle.sh_types.specs.Need.{Outcome, Goes, Puts, Calls, Quits, Traps, Leaks, Need, answered, touched}
 use Rattle.sh_types.specs.Shuffled.{Setting, Owned, hart_needs, Shuffled, harts_lose}
 
--- a word of eight bytes that was touched: its number, and its value and owner before the turn and now
+-- a word of eight bytes, with its value and owner
+pub record Note : Type 0 where
+  pub word : ℕ
+  pub cell : Owned
+
+-- the words where some of them have been changed
+abbrev pub with_words : List Note → (ℕ → Owned) → ℕ → Owned
+with_words [] m w = m w
+with_words (x ∷ xs) m w = if x.word == w then x.cell else with_words xs m w
+
+-- a word that was touched: its number, and its value and owner before the turn and now
 pub record Touched : Type 0 where
   pub word : ℕ
   pub before : Owned
   pub now : Owned
+
+abbrev pub noted : Touched → Note
+noted x = record { word = x.word; cell = x.before }
+
+abbrev pub renewed : Touched → Note
+renewed x = record { word = x.word; cell = x.now }
 
 -- how far a turn has come: the hart, its instructions so far, each word that they touched, once, in the order of the
 -- first touch, and the ranges that they stored, in their order
@@ -22,10 +38,9 @@ pub record Ahead : Type 0 where
   pub touched : List Touched
   pub stores : List Stored
 
--- a word as the turn sees it, over the words of the state
+-- the words as the turn sees them, over those of the state
 abbrev pub over : List Touched → (ℕ → Owned) → ℕ → Owned
-over [] m w = m w
-over (x ∷ xs) m w = if x.word == w then x.now else over xs m w
+over xs m = with_words (map renewed xs) m
 
 -- a word is touched and left so
 abbrev pub touch : (ℕ → Owned) → ℕ → Owned → List Touched → List Touched
@@ -72,23 +87,12 @@ ahead_of o k h m = ahead_from o m k (set_off h)
 
 -- ---- notes and effects
 
--- a word with its value and owner
-pub record Note : Type 0 where
-  pub word : ℕ
-  pub cell : Owned
-
 -- the hart after a turn, how many instructions it has, the words that it touched as it leaves them, and what it stored
 pub record Effects : Type 0 where
   pub hart : Hart
   pub count : ℕ
   pub words : List Note
   pub stores : List Stored
-
-abbrev pub noted : Touched → Note
-noted x = record { word = x.word; cell = x.before }
-
-abbrev pub renewed : Touched → Note
-renewed x = record { word = x.word; cell = x.now }
 
 abbrev pub notes_in : Ahead → List Note
 notes_in a = map noted a.touched
@@ -109,10 +113,6 @@ Hold m [] = Unit {0}
 Hold m (x ∷ xs) = (m x.word ≡ x.cell) × Hold m xs
 
 -- ---- what effects leave of a state
-
-abbrev pub with_words : List Note → (ℕ → Owned) → ℕ → Owned
-with_words [] m = m
-with_words (x ∷ xs) m = set_at (with_words xs m) x.word x.cell
 
 -- each stored range takes from the other harts the reservations that share a byte with it
 abbrev pub harts_lose_all : ℕ → List Stored → List Hart → List Hart
