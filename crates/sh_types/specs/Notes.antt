@@ -60,28 +60,26 @@ more_stores ss (Some s) = ss ++ s ∷ []
 abbrev pub next_needs : Setting → Hart → Need Hart Owned
 next_needs o h = let l = o.layout_at h.layout in hart_needs (tables_of o.image) l o.image.regions h (copied o.image l h.pc)
 
-abbrev pub with_touched : Ahead → List Touched → Ahead
-with_touched a xs = record { hart = a.hart; count = a.count; touched = xs; stores = a.stores }
-
--- after an outcome a turn goes on, or it stops before a call, a hart's end, a trap or a leak
-abbrev pub goes_ahead : (ℕ → Owned) → Outcome Hart Owned → Ahead → (Ahead → Ahead) → Ahead
-goes_ahead m (Goes h) a on = on (record { hart = h; count = a.count + 1; touched = a.touched; stores = a.stores })
-goes_ahead m (Puts h w c stored) a on = on (record { hart = h; count = a.count + 1; touched = touch m w c a.touched; stores = more_stores a.stores stored })
-goes_ahead m Calls a on = a
-goes_ahead m Quits a on = a
-goes_ahead m (Traps kind value) a on = a
-goes_ahead m Leaks a on = a
+-- after an outcome a turn goes on, with these words touched, or it stops before a call, a hart's end, a trap or a leak
+abbrev pub goes_ahead : (ℕ → Owned) → Outcome Hart Owned → Ahead → List Touched → (Ahead → Ahead) → Ahead
+goes_ahead m (Goes h) a xs on = on (record { hart = h; count = a.count + 1; touched = xs; stores = a.stores })
+goes_ahead m (Puts h w c stored) a xs on = on (record { hart = h; count = a.count + 1; touched = touch m w c xs; stores = more_stores a.stores stored })
+goes_ahead m Calls a xs on = a
+goes_ahead m Quits a xs on = a
+goes_ahead m (Traps kind value) a xs on = a
+goes_ahead m Leaks a xs on = a
 
 -- so many further instructions at most, over the words of the state
 abbrev pub ahead_from : Setting → (ℕ → Owned) → ℕ → Ahead → Ahead
 ahead_from o m zero a = a
 ahead_from o m (suc k) a =
-    goes_ahead m (answered (next_needs o a.hart) (over a.touched m)) (with_touched a (touch_if m (touched (next_needs o a.hart)) a.touched)) (λ b. ahead_from o m k b)
+    goes_ahead m (answered (next_needs o a.hart) (over a.touched m)) a (touch_if m (touched (next_needs o a.hart)) a.touched) (λ b. ahead_from o m k b)
 
 abbrev pub set_off : Hart → Ahead
 set_off h = record { hart = h; count = 0; touched = []; stores = [] }
 
--- so many instructions of a hart at most
+-- So many instructions of a hart at most. One that calls, ends its hart, traps or leaks is not among them: the turn ends
+-- before it.
 unfoldable pub ahead_of : Setting → ℕ → Hart → (ℕ → Owned) → Ahead
 ahead_of o k h m = ahead_from o m k (set_off h)
 
