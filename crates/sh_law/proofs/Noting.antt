@@ -1,10 +1,10 @@
 -- Instructions that are run ahead come out the same wherever the hart and the words that they touch are the same.
-use Rattle.std.proofs.Common.{◌≡◌, ℕ, zero, suc, ◌+◌, ◌≤◌, Bool, true, false, Option, Some, None, List, [], ◌∷◌, refl, sym, ap, ◌∙◌, subst, arith}
+use Rattle.std.proofs.Common.{◌≡◌, ℕ, zero, suc, ◌+◌, ◌<◌, ◌≤◌, Bool, true, false, Option, Some, None, List, [], ◌∷◌, refl, sym, ap, ◌∙◌, subst, arith}
 use Rattle.std.specs.Prelude.{map, ◌==◌, if◌then◌else◌}
 use Rattle.sh_types.specs.declared.runs.Hart.{Hart}
 use Rattle.sh_types.specs.Need.{Outcome, Goes, Puts, Calls, Quits, Traps, Leaks, Need, answered, touched}
-use Rattle.sh_types.specs.Notes.{Note, with_words, Touched, noted, renewed, Ahead, over, touch, touch_if, more_stores, next_needs, goes_ahead, ahead_from, set_off, ahead_of, notes_in, effects_in, notes_of, effects_of, Hold}
-use Rattle.sh_types.specs.Shuffled.{Setting, Owned}
+use Rattle.sh_types.specs.Notes.{Note, with_words, Touched, noted, renewed, Ahead, over, touch, touch_if, more_stores, next_needs, is_stop, goes_ahead, ahead_from, set_off, ahead_of, notes_in, effects_in, notes_of, effects_of, Hold}
+use Rattle.sh_types.specs.Shuffled.{Setting, Owned, moved_of}
 
 -- ---- a word that is touched
 
@@ -86,6 +86,27 @@ comes_step o m k a Leaks e f = record { count = 0; few = omega arith; is = omega
 pub comes : (o : Setting) (m : ℕ → Owned) (k : ℕ) (a : Ahead) → Comes o m k a (ahead_from o m k a)
 comes o m zero a = record { count = 0; few = omega arith; is = omega arith; same = refl }
 comes o m (suc k) a = comes_step o m k a (answered (next_needs o a.hart) (over a.touched m)) refl (comes o m k)
+
+-- ---- where a turn stops
+
+abbrev Stopped : Setting → (ℕ → Owned) → Ahead → Type 0
+Stopped o m e = is_stop (answered (next_needs o e.hart) (over e.touched m)) ≡ true
+
+stop_step : (o : Setting) (m : ℕ → Owned) (k : ℕ) (a : Ahead) (xs : List Touched) (out : Outcome Hart Owned) → answered (next_needs o a.hart) (over a.touched m) ≡ out → ((b : Ahead) → (ahead_from o m k b).count < b.count + k → Stopped o m (ahead_from o m k b)) → (goes_ahead m out a xs (λ b. ahead_from o m k b)).count < a.count + suc k → Stopped o m (goes_ahead m out a xs (λ b. ahead_from o m k b))
+stop_step o m k a xs (Goes h) e f l = f _ (omega (arith, l))
+stop_step o m k a xs (Puts h w c stored) e f l = f _ (omega (arith, l))
+stop_step o m k a xs Calls e f l = ap is_stop e
+stop_step o m k a xs Quits e f l = ap is_stop e
+stop_step o m k a xs (Traps kind value) e f l = ap is_stop e
+stop_step o m k a xs Leaks e f l = ap is_stop e
+
+stops : (o : Setting) (m : ℕ → Owned) (k : ℕ) (a : Ahead) → (ahead_from o m k a).count < a.count + k → Stopped o m (ahead_from o m k a)
+stops o m zero a l = absurd (omega (arith, l))
+stops o m (suc k) a l = stop_step o m k a (touch_if m (touched (next_needs o a.hart)) a.touched) (answered (next_needs o a.hart) (over a.touched m)) refl (stops o m k) l
+
+pub turn_stops : (o : Setting) (k : ℕ) (h : Hart) (m : ℕ → Owned) → (effects_of o k h m).count < k → is_stop (moved_of o (effects_of o k h m).hart (with_words (effects_of o k h m).words m)) ≡ true
+unfolding effects_of ahead_of
+turn_stops o k h m l = stops o m k (set_off h) (omega (arith, l))
 
 -- ---- the same turn
 

@@ -9,7 +9,7 @@ use Rattle.sh_types.specs.Pace.{Pace, paced_on, followed, keeps_pace, all_keep, 
 use Rattle.sh_types.specs.Shuffled.{Setting, Shuffled, shuffled_start}
 use Rattle.sh_law.proofs.Lists.{and_first, and_second}
 
-both_true : (a b : Bool) → a ≡ true → b ≡ true → (a && b) ≡ true
+pub both_true : (a b : Bool) → a ≡ true → b ≡ true → (a && b) ≡ true
 both_true a b e f = grind arith
 
 -- ---- of the shuffled machine

@@ -1,8 +1,12 @@
 //! Instructions of a hart that are run ahead.
-ghost use Rattle.std.specs.Prelude.{◌≡◌, ℕ, ◌≤◌};
+ghost use Rattle.std.specs.Prelude.{◌≡◌, ℕ, ◌<◌, ◌≤◌, List, Some, true, slice_get};
 ghost use Rattle.sh_types.specs.declared.runs.Hart.{Hart};
-ghost use Rattle.sh_types.specs.Notes.{Hold, effects_of, notes_of};
-ghost use Rattle.sh_types.specs.Shuffled.{Setting, Owned};
+ghost use Rattle.sh_types.specs.declared.runs.Event.{Event};
+ghost use Rattle.sh_types.specs.Event.{IsLegalIn, can_run, state_after};
+ghost use Rattle.sh_types.specs.Fine.{IsSetting};
+ghost use Rattle.sh_types.specs.Notes.{Hold, effects_of, is_stop, notes_of, with_words};
+ghost use Rattle.sh_types.specs.Shuffled.{Setting, Owned, moved_of};
+ghost use Rattle.sh_law.specs.Done.{AreDone};
 
 use sh_types::instructions_see_one_word;
 
@@ -15,10 +19,21 @@ pub fn turns_see_what_they_note()
     instructions_see_one_word();
 }
 
-/// A turn has at most as many instructions as were asked, and is the turn of just so many.
-#[tactic(auto, using(crate::proofs::Noting::count_few, crate::proofs::Noting::notes_count, crate::proofs::Noting::effects_count))]
+/// A turn has at most as many instructions as were asked, and is the turn of just so many. It has fewer only where a call,
+/// the hart's end, a trap or a leak comes next.
+#[tactic(auto, using(crate::proofs::Noting::count_few, crate::proofs::Noting::notes_count, crate::proofs::Noting::effects_count, crate::proofs::Noting::turn_stops))]
 pub fn turns_have_their_count()
     ensures few { (o : Setting) (k : ℕ) (h : Hart) (m : ℕ → Owned) → (effects_of o k h m).count ≤ k }
     ensures notes { (o : Setting) (k : ℕ) (h : Hart) (m : ℕ → Owned) → notes_of o (effects_of o k h m).count h m ≡ notes_of o k h m }
     ensures effects { (o : Setting) (k : ℕ) (h : Hart) (m : ℕ → Owned) → effects_of o (effects_of o k h m).count h m ≡ effects_of o k h m }
+    ensures stops { (o : Setting) (k : ℕ) (h : Hart) (m : ℕ → Owned) → (effects_of o k h m).count < k → is_stop (moved_of o (effects_of o k h m).hart (with_words (effects_of o k h m).words m)) ≡ true }
 {}
+
+/// The effects of instructions that were run ahead, over whatever words, are what these instructions do in each state
+/// that has the hart and the noted words as they were.
+pub fn effects_are_carried()
+    ensures here { (o : Setting) (events : List Event) (n k : ℕ) (h : Hart) → IsSetting o → IsLegalIn o events → can_run (state_after o events) n ≡ true → slice_get (state_after o events).harts n ≡ Some h → AreDone o n (state_after o events) (effects_of o k h (state_after o events).words) }
+    ensures carried { (o : Setting) (events : List Event) (n k : ℕ) (h : Hart) (m : ℕ → Owned) → IsSetting o → IsLegalIn o events → can_run (state_after o events) n ≡ true → slice_get (state_after o events).harts n ≡ Some h → Hold (state_after o events).words (notes_of o k h m) → AreDone o n (state_after o events) (effects_of o k h m) }
+{
+    instructions_see_one_word();
+}

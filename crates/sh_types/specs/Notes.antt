@@ -1,6 +1,6 @@
 -- Instructions of a hart that are run ahead: the words that they touch, as they were before the first of them, and what
 -- they leave. Only these words and the hart go into it. This project's own.
-use Rattle.std.specs.Prelude.{◌≡◌, ℕ, zero, suc, ◌+◌, ◌==◌, Option, Some, None, List, [], ◌∷◌, ◌++◌, map, slice_get, slice_set, if◌then◌else◌}
+use Rattle.std.specs.Prelude.{◌≡◌, ℕ, zero, suc, ◌+◌, ◌==◌, Bool, true, false, Option, Some, None, List, [], ◌∷◌, ◌++◌, map, slice_get, slice_set, if◌then◌else◌}
 use Rattle.sh_types.specs.declared.runs.Hart.{Hart}
 use Rattle.sh_types.specs.declared.runs.Stored.{Stored}
 use Rattle.sh_types.specs.Copy.{copied}
@@ -59,6 +59,15 @@ more_stores ss (Some s) = ss ++ s ∷ []
 -- what the hart's next instruction demands, by the word of its layout's copy
 abbrev pub next_needs : Setting → Hart → Need Hart Owned
 next_needs o h = let l = o.layout_at h.layout in hart_needs (tables_of o.image) l o.image.regions h (copied o.image l h.pc)
+
+-- an outcome before which a turn stops
+abbrev pub is_stop : Outcome Hart Owned → Bool
+is_stop (Goes h) = false
+is_stop (Puts h w c stored) = false
+is_stop Calls = true
+is_stop Quits = true
+is_stop (Traps kind value) = true
+is_stop Leaks = true
 
 -- after an outcome a turn goes on, with these words touched, or it stops before a call, a hart's end, a trap or a leak
 abbrev pub goes_ahead : (ℕ → Owned) → Outcome Hart Owned → Ahead → List Touched → (Ahead → Ahead) → Ahead
