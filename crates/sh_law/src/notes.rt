@@ -1,11 +1,14 @@
 //! Instructions of a hart that are run ahead.
-ghost use Rattle.std.specs.Prelude.{◌≡◌, ℕ, ◌<◌, ◌≤◌, List, Some, true, slice_get};
+ghost use Rattle.std.specs.Prelude.{◌≡◌, ℕ, ◌<◌, ◌≤◌, List, [], ◌∷◌, Some, None, true, slice_get, take};
 ghost use Rattle.sh_types.specs.declared.runs.Hart.{Hart};
 ghost use Rattle.sh_types.specs.declared.runs.Event.{Event};
 ghost use Rattle.sh_types.specs.Event.{IsLegalIn, can_run, state_after};
 ghost use Rattle.sh_types.specs.Fine.{IsSetting};
 ghost use Rattle.sh_types.specs.Notes.{Hold, effects_of, is_stop, notes_of, with_words};
-ghost use Rattle.sh_types.specs.Shuffled.{Setting, Owned, moved_of};
+ghost use Rattle.sh_types.specs.Need.{stored_at};
+ghost use Rattle.sh_types.specs.Shuffled.{Setting, Owned, moved_of, shuffled_start};
+ghost use Rattle.sh_law.specs.AheadExample.{note, tries_setting, turn_in};
+ghost use Rattle.sh_law.specs.Example.{example_events, example_setting};
 ghost use Rattle.sh_law.specs.Done.{AreDone};
 
 use sh_types::instructions_see_one_word;
@@ -37,3 +40,10 @@ pub fn effects_are_carried()
 {
     instructions_see_one_word();
 }
+
+/// Two turns are known: one with a store-conditional that fails, up to a trap, and one that saves ra, takes it back and
+/// changes a word four times, up to the hart's end.
+pub fn turns_are_met()
+    ensures tries { turn_in tries_setting 0 9 (shuffled_start tries_setting) ≡ Some (record { notes = note 0x2000 7 None ∷ []; count = 2; words = note 0x2000 7 None ∷ []; stores = [] }) }
+    ensures adds { turn_in example_setting 1 50 (state_after example_setting (take 2 example_events)) ≡ Some (record { notes = note 0x7fffdf9 0 None ∷ note 0x2000 0 None ∷ []; count = 19; words = note 0x7fffdf9 0 None ∷ note 0x2000 6 None ∷ []; stores = stored_at 0x3fffefc8 8 ∷ stored_at 0x10000 8 ∷ stored_at 0x10000 8 ∷ stored_at 0x10000 8 ∷ stored_at 0x10000 8 ∷ [] }) }
+{}
