@@ -1,12 +1,11 @@
 -- A run of the unmoved machine that has not ended has a live hart.
-use Rattle.std.proofs.Common.{◌≡◌, ℕ, zero, suc, ◌+◌, Bool, true, false, Option, Some, None, List, [], ◌∷◌, ◌++◌, length, refl, sym, ap, ◌∙◌, subst}
-use Rattle.std.specs.Prelude.{map, slice_get, slice_set, slice_index, ◌==◌, ◌&&◌, ◌||◌, ◌/◌, ◌%◌, if◌then◌else◌}
+use Rattle.std.proofs.Common.{◌≡◌, ℕ, zero, suc, Bool, true, false, Option, Some, None, List, [], ◌∷◌, ◌++◌, length, refl, ap, ◌∙◌}
+use Rattle.std.specs.Prelude.{slice_get, slice_set, slice_index, ◌==◌, ◌&&◌, ◌||◌, ◌/◌, ◌%◌, if◌then◌else◌}
 use Rattle.sh_types.specs.declared.code.CodeRef.{CodeRef}
 use Rattle.sh_types.specs.declared.code.CodeRef.TheVariants.{Root, At}
 use Rattle.sh_types.specs.declared.code.Image.{Image}
 use Rattle.sh_types.specs.declared.code.Pair.{Pair}
 use Rattle.sh_types.specs.declared.code.Region.{Region}
-use Rattle.sh_types.specs.declared.runs.End.{End}
 use Rattle.sh_types.specs.declared.runs.Stored.{Stored}
 use Rattle.sh_types.specs.declared.runs.Trap.{Trap}
 use Rattle.sh_types.specs.declared.runs.Trap.TheVariants as trap
@@ -18,8 +17,8 @@ use Rattle.sh_types.specs.Need.{Outcome, Goes, Puts, Calls, Quits, Traps, Leaks,
 use Rattle.sh_types.specs.Operands.{reads_ra, both_ra, computed, width_of, is_lr, is_sc}
 use Rattle.sh_types.specs.Arithmetic.{compare_of}
 use Rattle.sh_types.specs.Tokens.{jump_number}
-use Rattle.sh_types.specs.Unmoved.{Thread, Cell, Number, Return, is_return, next_of, goes, reserves, set_thread, load_cell, store_cell, reserve_cell, store_if, amo_cell, atomic_cell, save_cell, take_cell, save_by, call_by, jump_by, back_to, thread_does, thread_needs, Unmoved, any_alive, first_answer, end_if, thread_loses, threads_lose, ended_thread, new_thread, then_call, thread_asks, then_leaves, on_thread, goes_still, is_alive, can_go, unmoved_step, unmoved_from, unmoved_start, unmoved_run}
-use Rattle.pace_law.proofs.Bools.{and_first, and_second}
+use Rattle.sh_types.specs.Unmoved.{Thread, Cell, Number, Return, is_return, next_of, goes, reserves, set_thread, load_cell, store_cell, reserve_cell, store_if, amo_cell, atomic_cell, save_cell, take_cell, save_by, call_by, jump_by, back_to, thread_does, thread_needs, Unmoved, any_alive, end_if, thread_loses, threads_lose, ended_thread, new_thread, then_call, thread_asks, then_leaves, on_thread, goes_still, is_alive, can_go, unmoved_step, unmoved_from, unmoved_start, unmoved_run}
+use Rattle.pace_law.proofs.Bools.{and_second}
 
 -- ---- a hart is live after its instruction, where that neither ends it nor the run
 

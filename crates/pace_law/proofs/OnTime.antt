@@ -1,16 +1,14 @@
 -- From which copy each instruction runs, and which copy is erased.
-use Rattle.std.proofs.Common.{◌≡◌, ℕ, zero, suc, ◌+◌, ◌-◌, ◌*◌, ◌/◌, ◌==◌, ◌&&◌, ◌≤◌, ◌<◌, Bool, true, false, not, Option, Some, None, List, [], ◌∷◌, ◌++◌, length, replicate, refl, sym, ap, ◌∙◌, subst, arith, length-append, append_assoc}
+use Rattle.std.proofs.Common.{◌≡◌, ℕ, zero, suc, ◌+◌, ◌-◌, ◌*◌, ◌/◌, ◌==◌, ◌&&◌, ◌≤◌, ◌<◌, Bool, true, false, not, Option, Some, None, List, [], ◌∷◌, ◌++◌, length, refl, sym, ap, ◌∙◌, subst, arith}
 use Rattle.std.specs.Prelude.{nat_le, nat_lt, slice_get}
 use Rattle.std.proofs.lemmas.Bool.Decides.{nat_tests}
-use Rattle.std.proofs.lemmas.List.{length-replicate}
 use Rattle.std.proofs.Math.Nat.{div-add-mod}
-use Rattle.sh_types.specs.declared.layouts.CodeCopy.{CodeCopy}
 use Rattle.sh_types.specs.declared.runs.Event.{Event}
 use Rattle.sh_types.specs.declared.runs.Event.TheVariants.{Run, Publish}
 use Rattle.sh_types.specs.declared.runs.Hart.{Hart}
 use Rattle.sh_types.specs.Copy.{wiped_copy}
-use Rattle.sh_types.specs.Event.{instructions, is_live, can_run, can_all, after_event, state_after, IsLegalIn, written}
-use Rattle.sh_types.specs.Pace.{Pace, is_among, paced_on, keeps_pace, all_keep, pace_after, IsPaced}
+use Rattle.sh_types.specs.Event.{instructions, is_live, can_run, can_all, state_after, IsLegalIn, written}
+use Rattle.sh_types.specs.Pace.{Pace, is_among, paced_on, keeps_pace, pace_after, IsPaced}
 use Rattle.sh_types.specs.Shuffled.{Setting, Shuffled, shuffled_step}
 use Rattle.sh_types.specs.Unmoved.{goes_still}
 use Rattle.sh_law.specs.Paced.{StandsPaced}

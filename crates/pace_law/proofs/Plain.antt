@@ -1,5 +1,5 @@
 -- The serial order without layouts.
-use Rattle.std.proofs.Common.{◌≡◌, ℕ, zero, suc, ◌+◌, ◌-◌, ◌%◌, ◌==◌, ◌&&◌, ◌||◌, ◌≤◌, ◌<◌, Bool, true, false, not, List, [], ◌∷◌, ◌++◌, length, replicate, min, refl, sym, ap, ◌∙◌, subst, arith, length-append}
+use Rattle.std.proofs.Common.{◌≡◌, ℕ, zero, suc, ◌+◌, ◌-◌, ◌%◌, ◌==◌, ◌||◌, ◌≤◌, ◌<◌, Bool, true, false, not, List, [], ◌∷◌, ◌++◌, length, replicate, min, refl, sym, ap, ◌∙◌, subst, arith, length-append}
 use Rattle.std.specs.Prelude.{if◌then◌else◌}
 use Rattle.std.proofs.lemmas.Bool.Decides.{nat_tests}
 use Rattle.std.proofs.lemmas.List.{length-replicate}
@@ -86,7 +86,7 @@ turns_through i q steps (suc k) low count u l =
     by true e r = record { few = omega (arith, l); full = λ some live m g. omega (arith, over_all steps count u e g) }
     by false e r =
         let many : length (replicate (turn_of i q steps low count u) (next_hart low u) ++ rest) ≡ turn_of i q steps low count u + length rest =
-            length-append (replicate (turn_of i q steps low count u) (next_hart low u)) rest ∙ ap (λ n. n + length rest) (length-replicate (turn_of i q steps low count u) (next_hart low u)) in
+        length-append (replicate (turn_of i q steps low count u) (next_hart low u)) rest ∙ ap (λ n. n + length rest) (length-replicate (turn_of i q steps low count u) (next_hart low u)) in
         record {
           few = omega (arith, many, r.few);
           full = λ some live m g.

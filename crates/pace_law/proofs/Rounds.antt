@@ -1,25 +1,24 @@
 -- A round of the serial order: what stands before a turn, and the turn.
-use Rattle.std.proofs.Common.{◌≡◌, ℕ, zero, suc, ◌+◌, ◌-◌, ◌*◌, ◌/◌, ◌%◌, ◌==◌, ◌&&◌, ◌||◌, ◌≤◌, ◌<◌, nat_lt, Bool, true, false, not, List, [], ◌∷◌, ◌++◌, length, replicate, min, refl, sym, ap, ◌∙◌, subst, arith, append_assoc, length-append}
-use Rattle.std.specs.Prelude.{nat_le, if◌then◌else◌}
+use Rattle.std.proofs.Common.{◌≡◌, ℕ, zero, suc, ◌+◌, ◌-◌, ◌*◌, ◌%◌, ◌==◌, ◌||◌, ◌≤◌, ◌<◌, Bool, true, false, not, List, [], ◌∷◌, ◌++◌, length, replicate, refl, sym, ap, ◌∙◌, subst, arith, append_assoc, length-append}
+use Rattle.std.specs.Prelude.{if◌then◌else◌}
 use Rattle.std.proofs.lemmas.Bool.Decides.{nat_tests}
 use Rattle.std.proofs.lemmas.List.{length-replicate}
-use Rattle.std.proofs.Math.Nat.{div-add-mod}
 use Rattle.sh_types.specs.declared.code.Image.{Image}
 use Rattle.sh_types.specs.declared.runs.Event.{Event}
 use Rattle.sh_types.specs.declared.runs.Event.TheVariants.{Run, Migrate, Publish, Erase}
 use Rattle.sh_types.specs.Event.{written}
-use Rattle.sh_types.specs.Next.{all_go, is_none, may_come, all_may}
+use Rattle.sh_types.specs.Next.{may_come, all_may}
 use Rattle.sh_types.specs.Pace.{Pace, live_from, without, is_among, paced_on, followed}
 use Rattle.sh_types.specs.PlainSerial.{goes_for}
 use Rattle.sh_types.specs.Serial.{Schedule, turn_in, turn, migrations, cleared_away, publication, boundary, is_done, is_due, ready, next_hart, turn_limit, serial_in}
-use Rattle.sh_types.specs.Unmoved.{Unmoved, goes_still, can_go, unmoved_from}
+use Rattle.sh_types.specs.Unmoved.{Unmoved, goes_still, unmoved_from}
 use Rattle.sh_law.proofs.Pacing.{guest_is}
 use Rattle.sh_law.proofs.Prefixes.{followed_append}
 use Rattle.pace_law.specs.Step.{InStep}
 use Rattle.pace_law.proofs.Alive.{StillLive, from_live}
 use Rattle.pace_law.proofs.Bools.{and_first, and_second, both_true}
-use Rattle.pace_law.proofs.Serials.{with_behind, same_test, without_first, all_move, published, cleared_follows, boundary_follows, Turned, turn_goes, Readied, ready_goes, turn_few, turn_short, turn_is, after_turn}
-use Rattle.pace_law.proofs.Turning.{turn_written, turn_may, goes_some, goes_few, next_goes}
+use Rattle.pace_law.proofs.Serials.{with_behind, same_test, without_first, all_move, cleared_follows, turn_goes, ready_goes, turn_few, turn_short, turn_is, after_turn}
+use Rattle.pace_law.proofs.Turning.{turn_written, turn_may, goes_some, next_goes}
 
 -- ---- lists of events
 
@@ -137,9 +136,9 @@ round_goes i p low b l s f =
     let written_is : written (turn i h m c) ≡ replicate (goes_for i h m c.guest) h = ap written is ∙ turn_written i h m m c (omega arith) in
     let same_hart : h ≡ next_hart low b.guest = ap (next_hart low) r.guest in
     let same_round : replicate (goes_for i h m c.guest) h ≡ replicate (round_count i p low b) (next_hart low b.guest) =
-        ap (λ (u : Unmoved). replicate (goes_for i (next_hart low u) m u) (next_hart low u)) r.guest ∙ ap (λ k. replicate (goes_for i (next_hart low b.guest) (turn_limit p k) b.guest) (next_hart low b.guest)) r.count in
+    ap (λ (u : Unmoved). replicate (goes_for i (next_hart low u) m u) (next_hart low u)) r.guest ∙ ap (λ k. replicate (goes_for i (next_hart low b.guest) (turn_limit p k) b.guest) (next_hart low b.guest)) r.count in
     let all : written (ready p.period b ++ turn i h m c) ≡ replicate (round_count i p low b) (next_hart low b.guest) =
-        written_append (ready p.period b) (turn i h m c) ∙ ap (λ ns. ns ++ written (turn i h m c)) (ready_unwritten p.period b) ∙ written_is ∙ same_round in
+    written_append (ready p.period b) (turn i h m c) ∙ ap (λ ns. ns ++ written (turn i h m c)) (ready_unwritten p.period b) ∙ written_is ∙ same_round in
     let q : followed i (ready p.period b ++ turn i h m c) b ≡ followed i (turn i h m c) c = followed_append i (ready p.period b) (turn i h m c) b in
     record {
       step = subst (λ x. InStep p.period (followed i x c)) (sym is) (after_turn i p.period m c (followed i (turn_in i h m m c) c) r.step room t);

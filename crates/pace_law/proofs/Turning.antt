@@ -1,12 +1,11 @@
 -- A turn: its events are allowed, and its instructions are as many as its hart can go.
-use Rattle.std.proofs.Common.{◌≡◌, ◌⊎◌, inl, inr, ℕ, zero, suc, ◌+◌, ◌-◌, ◌==◌, ◌&&◌, ◌≤◌, ◌<◌, ◌||◌, nat_lt, Bool, true, false, not, Option, Some, None, List, [], ◌∷◌, ◌++◌, length, replicate, refl, sym, ap, ◌∙◌, subst, arith}
+use Rattle.std.proofs.Common.{◌≡◌, ◌⊎◌, inl, inr, ℕ, zero, suc, ◌+◌, ◌-◌, ◌==◌, ◌&&◌, ◌≤◌, ◌<◌, ◌||◌, nat_lt, Bool, true, false, not, List, [], ◌∷◌, ◌++◌, length, replicate, refl, sym, ap, ◌∙◌, subst, arith}
 use Rattle.std.specs.Prelude.{slice_get, nat_le, if◌then◌else◌}
 use Rattle.std.proofs.lemmas.Bool.Decides.{nat_tests}
 use Rattle.sh_types.specs.declared.code.Image.{Image}
-use Rattle.sh_types.specs.declared.runs.Event.{Event}
-use Rattle.sh_types.specs.declared.runs.Event.TheVariants.{Run, Migrate, Publish, Erase}
+use Rattle.sh_types.specs.declared.runs.Event.TheVariants.{Run}
 use Rattle.sh_types.specs.Event.{written}
-use Rattle.sh_types.specs.Next.{all_go, may_come, all_may}
+use Rattle.sh_types.specs.Next.{all_go, all_may}
 use Rattle.sh_types.specs.Pace.{Pace, live_from, is_among, paced_on}
 use Rattle.sh_types.specs.PlainSerial.{goes_for}
 use Rattle.sh_types.specs.Serial.{calls_next, further, run_length, turn_in, first_or, next_from, next_hart}

@@ -12,9 +12,7 @@ ghost use Rattle.sh_types.specs.Shuffled.{Setting};
 ghost use Rattle.pace_law.specs.Copies.{RunsOnTime};
 
 use crate::lists::counts_are_in_step;
-use sh_law::{
-    erased_copies_are_zero, instructions_are_counted, paced_harts_are_on_the_newest,
-};
+use sh_law::{erased_copies_are_zero, instructions_are_counted, paced_harts_are_on_the_newest};
 
 /// In a legal, paced journal each instruction runs from the copy of the layout of its count: from copy c / period + 1
 /// where c instructions were executed before it.
