@@ -4,6 +4,7 @@ use Rattle.sh_types.specs.declared.runs.Event.{Event}
 use Rattle.sh_types.specs.declared.runs.Event.TheVariants.{Run, Migrate, Publish, Erase}
 use Rattle.sh_types.specs.Serial.{Schedule}
 
+-- a period of twenty instructions, turns of six, and more steps than the image takes
 abbrev pub small_schedule : Schedule
 small_schedule = record { period = 20; quantum = 6; steps = 100 }
 

@@ -1,6 +1,6 @@
 -- The effects of a turn are what its instructions do.
-use Rattle.std.proofs.Common.{◌≡◌, ◌≢◌, ℕ, zero, suc, ◌+◌, ◌<◌, Bool, true, false, Option, Some, None, List, [], ◌∷◌, ◌++◌, refl, sym, ap, ◌∙◌, subst, arith}
-use Rattle.std.specs.Prelude.{map, slice_get, slice_set, ◌==◌, ◌&&◌, if◌then◌else◌}
+use Rattle.std.proofs.Common.{◌≡◌, ℕ, zero, suc, ◌+◌, Bool, true, false, Option, Some, None, List, [], ◌∷◌, refl, sym, ap, ◌∙◌, subst, arith}
+use Rattle.std.specs.Prelude.{map, slice_get, slice_set, ◌==◌, if◌then◌else◌}
 use Rattle.std.proofs.Math.Path.{fun_ext}
 use Rattle.std.proofs.lemmas.Bool.Decides.{nat_tests}
 use Rattle.std.proofs.lemmas.List.{append-nil}
@@ -12,8 +12,8 @@ use Rattle.sh_types.specs.declared.runs.Stored.{Stored}
 use Rattle.sh_types.specs.Event.{instructions, is_live, can_run, can_all, state_after, IsLegalIn, written}
 use Rattle.sh_types.specs.Fine.{IsSetting}
 use Rattle.sh_types.specs.Need.{Outcome, Goes, Puts, Calls, Quits, Traps, Leaks, answered, touched, set_at, kept_from}
-use Rattle.sh_types.specs.Notes.{Note, with_words, Touched, noted, renewed, Ahead, over, touch, touch_if, more_stores, next_needs, goes_ahead, ahead_from, set_off, ahead_of, Effects, effects_in, effects_of, notes_of, Hold, harts_lose_all, with_effects}
-use Rattle.sh_types.specs.Shuffled.{Setting, Owned, reserves_on, Shuffled, left, hart_loses, harts_lose, after, moved_of, on_hart, shuffled_step}
+use Rattle.sh_types.specs.Notes.{Touched, Ahead, over, touch, touch_if, more_stores, next_needs, goes_ahead, ahead_from, set_off, ahead_of, effects_in, effects_of, notes_of, Hold, harts_lose_all, with_effects}
+use Rattle.sh_types.specs.Shuffled.{Setting, Owned, reserves_on, Shuffled, hart_loses, harts_lose, after, moved_of, on_hart, shuffled_step}
 use Rattle.sh_types.specs.StandsFor.{layout_number, layouts_of}
 use Rattle.sh_types.specs.Unmoved.{Thread, Cell, thread_needs, Unmoved, goes_still, unmoved_step, unmoved_run}
 use Rattle.sh_law.specs.Agrees.{Agrees}
@@ -22,7 +22,7 @@ use Rattle.sh_law.specs.Keeps.{IsCipher}
 use Rattle.sh_law.specs.Sound.{Stays}
 use Rattle.sh_law.proofs.Agreeing.{one_agrees}
 use Rattle.sh_law.proofs.Lists.{and_first, and_second, GetStands, get_stands, get_at, get_map}
-use Rattle.sh_law.proofs.Noting.{SeesOne, effects_same, effects_count}
+use Rattle.sh_law.proofs.Noting.{SeesOne, effects_same}
 use Rattle.sh_law.proofs.Prefixes.{both_true}
 use Rattle.sh_law.proofs.Stepping.{one_stands}
 use Rattle.sh_law.proofs.Whole.{law}

@@ -3,7 +3,7 @@ use Rattle.std.proofs.Common.{◌≡◌, ℕ, zero, suc, ◌+◌, ◌<◌, ◌�
 use Rattle.std.specs.Prelude.{map, ◌==◌, if◌then◌else◌}
 use Rattle.sh_types.specs.declared.runs.Hart.{Hart}
 use Rattle.sh_types.specs.Need.{Outcome, Goes, Puts, Calls, Quits, Traps, Leaks, Need, answered, touched}
-use Rattle.sh_types.specs.Notes.{Note, with_words, Touched, noted, renewed, Ahead, over, touch, touch_if, more_stores, next_needs, is_stop, goes_ahead, ahead_from, set_off, ahead_of, notes_in, effects_in, notes_of, effects_of, Hold}
+use Rattle.sh_types.specs.Notes.{with_words, Touched, noted, Ahead, over, touch, touch_if, more_stores, next_needs, is_stop, goes_ahead, ahead_from, set_off, ahead_of, notes_in, effects_in, notes_of, effects_of, Hold}
 use Rattle.sh_types.specs.Shuffled.{Setting, Owned, moved_of}
 
 -- ---- a word that is touched

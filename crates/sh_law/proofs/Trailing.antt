@@ -1,24 +1,23 @@
 -- In a paced journal that is legal the harts that are behind are live, and not on the newest layout.
-use Rattle.std.proofs.Common.{◌≡◌, ◌≢◌, ◌⊎◌, inl, inr, ℕ, zero, suc, ◌+◌, ◌<◌, ◌≤◌, Bool, true, false, Option, Some, None, List, [], ◌∷◌, ◌++◌, replicate, length, refl, sym, ap, ◌∙◌, subst, arith}
+use Rattle.std.proofs.Common.{◌≡◌, ◌≢◌, inl, inr, ℕ, zero, suc, ◌+◌, Bool, true, false, Option, Some, None, List, [], ◌∷◌, ◌++◌, replicate, length, refl, sym, ap, ◌∙◌, subst, arith}
 use Rattle.std.specs.Prelude.{slice_get, slice_set, not, ◌==◌, ◌&&◌, ◌||◌, nat_lt, if◌then◌else◌}
 use Rattle.std.proofs.lemmas.Bool.Decides.{nat_tests}
-use Rattle.sh_types.specs.declared.code.Image.{Image}
 use Rattle.sh_types.specs.declared.runs.Event.{Event}
 use Rattle.sh_types.specs.declared.runs.Event.TheVariants.{Run, Migrate, Publish, Erase}
 use Rattle.sh_types.specs.declared.runs.Hart.{Hart}
 use Rattle.sh_types.specs.declared.runs.Stored.{Stored}
 use Rattle.sh_types.specs.Environment.{CallDid, Answers, Reads, Starts, ExitsHart, ExitsRun, LeaksWord, call_of}
-use Rattle.sh_types.specs.Event.{instructions, is_live, can_run, can_all, migrated, migrate, is_off, all_on, after_event, is_allowed, shuffled_from, IsLegalFrom, state_after, IsLegalIn, written}
+use Rattle.sh_types.specs.Event.{instructions, can_run, can_all, migrated, migrate, is_off, all_on, after_event, is_allowed, state_after, IsLegalIn, written}
 use Rattle.sh_types.specs.Fine.{IsSetting}
 use Rattle.sh_types.specs.Need.{Outcome, Goes, Puts, Calls, Quits, Traps, Leaks, stored_at, kept_from}
 use Rattle.sh_types.specs.Next.{all_go, is_none, may_come}
-use Rattle.sh_types.specs.Pace.{Pace, live_from, without, is_among, paced_on, followed, keeps_pace, all_keep, opening_pace, pace_after, IsPaced}
-use Rattle.sh_types.specs.Shuffled.{Setting, Owned, Shuffled, set_hart, ended_hart, hart_loses, harts_lose, reserves_on, new_hart, after_call, hart_asks, after, moved_of, on_hart, shuffled_step, shuffled_start}
+use Rattle.sh_types.specs.Pace.{Pace, live_from, without, is_among, paced_on, keeps_pace, pace_after, IsPaced}
+use Rattle.sh_types.specs.Shuffled.{Setting, Owned, Shuffled, set_hart, ended_hart, hart_loses, harts_lose, reserves_on, new_hart, after_call, hart_asks, after, moved_of, on_hart, shuffled_step}
 use Rattle.sh_types.specs.Unmoved.{Thread, Unmoved, goes_still, can_go, unmoved_step, unmoved_run}
 use Rattle.sh_law.specs.Keeps.{IsCipher}
 use Rattle.sh_law.specs.Paced.{AreOn, StandsPaced}
-use Rattle.sh_law.specs.Sound.{IsOn, HartsOn, Stays}
-use Rattle.sh_law.proofs.Lists.{and_first, and_second, eq_of, not_true, GetStands, get_stands, get_at, get_off, get_map, get_before, OptionOn, get_on}
+use Rattle.sh_law.specs.Sound.{IsOn, Stays}
+use Rattle.sh_law.proofs.Lists.{and_first, and_second, eq_of, not_true, GetStands, get_stands, get_off, get_map, get_before, OptionOn, get_on}
 use Rattle.sh_law.proofs.Prefixes.{state_more, legal_before, legal_after, pace_more, paced_after, by_prefix}
 use Rattle.sh_law.proofs.Pacing.{paced_stands, guest_stands}
 use Rattle.sh_law.proofs.Stepping.{one_stands, runs_in_both}

@@ -9,7 +9,7 @@ use Rattle.sh_types.specs.declared.runs.Stored.{Stored}
 use Rattle.sh_types.specs.Frame.{frame}
 use Rattle.sh_types.specs.Notes.{Note, notes_of, effects_of}
 use Rattle.sh_types.specs.Place.{cell_start}
-use Rattle.sh_types.specs.Shuffled.{Setting, Owned, owned, Shuffled}
+use Rattle.sh_types.specs.Shuffled.{Setting, owned, Shuffled}
 use Rattle.sh_law.specs.Example.{function, region, table, keys_from}
 
 -- a store-conditional without a reservation, and then a trap
@@ -20,6 +20,7 @@ tries_words =
     ∷ 0x00100073  -- ebreak
     ∷ []
 
+-- the image of these words alone, with one word of data
 abbrev pub tries : Image
 tries =
     record {
@@ -34,12 +35,14 @@ tries =
       regions = region 0x10000 0x10008 true (7 ∷ []) ∷ [];
     }
 
+-- each layout in a region of its own
 abbrev pub tries_setting : Setting
 tries_setting =
     record { image = tries; input = []; layout_at = λ k. record { number = k; cell = k % 256; places = cell_start (k % 256) ∷ []; sizes = 12 ∷ []; keys = keys_from 64 (64 * k + 1) } }
 
+-- a word with its value and owner
 abbrev pub note : ℕ → ℕ → Option ℕ → Note
-note word value owner = record { word = word; cell = owned value owner }
+note word value owner = record { word = word; content = owned value owner }
 
 -- what so many instructions of a hart note in a state, how many they are, how they leave the words, and what they store
 pub record Turn : Type 0 where
@@ -48,9 +51,11 @@ pub record Turn : Type 0 where
   pub words : List Note
   pub stores : List Stored
 
+-- the turn of a hart, where there is one
 abbrev pub turn_by : Setting → ℕ → Shuffled → Option Hart → Option Turn
 turn_by o k s None = None
 turn_by o k s (Some h) = let e = effects_of o k h s.words in Some (record { notes = notes_of o k h s.words; count = e.count; words = e.words; stores = e.stores })
 
+-- the turn of the hart with this number
 abbrev pub turn_in : Setting → (n k : ℕ) → Shuffled → Option Turn
 turn_in o n k s = turn_by o k s (slice_get s.harts n)

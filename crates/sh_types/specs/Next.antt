@@ -12,6 +12,7 @@ abbrev pub all_go : Image → List ℕ → Unmoved → Bool
 all_go i [] u = true
 all_go i (n ∷ ns) u = can_go u n && all_go i ns (unmoved_step i n u)
 
+-- the list is empty
 abbrev pub is_none : List ℕ → Bool
 is_none [] = true
 is_none (k ∷ ks) = false

@@ -1,6 +1,6 @@
 -- Instructions of a hart that are run ahead: the words that they touch, as they were before the first of them, and what
 -- they leave. Only these words and the hart go into it. This project's own.
-use Rattle.std.specs.Prelude.{◌≡◌, ℕ, zero, suc, ◌+◌, ◌==◌, Bool, true, false, Option, Some, None, List, [], ◌∷◌, ◌++◌, map, slice_get, slice_set, if◌then◌else◌}
+use Rattle.std.specs.Prelude.{◌≡◌, ℕ, zero, suc, ◌+◌, ◌==◌, Bool, true, false, Option, Some, None, List, [], ◌∷◌, ◌++◌, map, slice_set, if◌then◌else◌}
 use Rattle.sh_types.specs.declared.runs.Hart.{Hart}
 use Rattle.sh_types.specs.declared.runs.Stored.{Stored}
 use Rattle.sh_types.specs.Copy.{copied}
@@ -11,12 +11,12 @@ use Rattle.sh_types.specs.Shuffled.{Setting, Owned, hart_needs, Shuffled, harts_
 -- a word of eight bytes, with its value and owner
 pub record Note : Type 0 where
   pub word : ℕ
-  pub cell : Owned
+  pub content : Owned
 
 -- the words where some of them have been changed
 abbrev pub with_words : List Note → (ℕ → Owned) → ℕ → Owned
 with_words [] m w = m w
-with_words (x ∷ xs) m w = if x.word == w then x.cell else with_words xs m w
+with_words (x ∷ xs) m w = if x.word == w then x.content else with_words xs m w
 
 -- a word that was touched: its number, and its value and owner before the turn and now
 pub record Touched : Type 0 where
@@ -24,11 +24,13 @@ pub record Touched : Type 0 where
   pub before : Owned
   pub now : Owned
 
+-- a touched word as it was before
 abbrev pub noted : Touched → Note
-noted x = record { word = x.word; cell = x.before }
+noted x = record { word = x.word; content = x.before }
 
+-- a touched word as it is now
 abbrev pub renewed : Touched → Note
-renewed x = record { word = x.word; cell = x.now }
+renewed x = record { word = x.word; content = x.now }
 
 -- how far a turn has come: the hart, its instructions so far, each word that they touched, once, in the order of the
 -- first touch, and the ranges that they stored, in their order
@@ -52,6 +54,7 @@ abbrev pub touch_if : (ℕ → Owned) → Option ℕ → List Touched → List T
 touch_if m None xs = xs
 touch_if m (Some w) xs = touch m w (over xs m w) xs
 
+-- the stored ranges with one more, if an instruction stores
 abbrev pub more_stores : List Stored → Option Stored → List Stored
 more_stores ss None = ss
 more_stores ss (Some s) = ss ++ s ∷ []
@@ -84,6 +87,7 @@ ahead_from o m zero a = a
 ahead_from o m (suc k) a =
     goes_ahead m (answered (next_needs o a.hart) (over a.touched m)) a (touch_if m (touched (next_needs o a.hart)) a.touched) (λ b. ahead_from o m k b)
 
+-- a turn before its first instruction
 abbrev pub set_off : Hart → Ahead
 set_off h = record { hart = h; count = 0; touched = []; stores = [] }
 
@@ -101,23 +105,26 @@ pub record Effects : Type 0 where
   pub words : List Note
   pub stores : List Stored
 
+-- the notes of a turn
 abbrev pub notes_in : Ahead → List Note
 notes_in a = map noted a.touched
 
+-- the effects of a turn
 abbrev pub effects_in : Ahead → Effects
 effects_in a = record { hart = a.hart; count = a.count; words = map renewed a.touched; stores = a.stores }
 
--- the words that so many instructions of a hart touch, as they are before the first
+-- the words that so many instructions of a hart at most touch, as they are before the first
 unfoldable pub notes_of : Setting → ℕ → Hart → (ℕ → Owned) → List Note
 notes_of o k h m = notes_in (ahead_of o k h m)
 
+-- what so many instructions of a hart at most leave
 unfoldable pub effects_of : Setting → ℕ → Hart → (ℕ → Owned) → Effects
 effects_of o k h m = effects_in (ahead_of o k h m)
 
 -- the noted words have these values and owners
 abbrev pub Hold : (ℕ → Owned) → List Note → Type 0
 Hold m [] = Unit {0}
-Hold m (x ∷ xs) = (m x.word ≡ x.cell) × Hold m xs
+Hold m (x ∷ xs) = (m x.word ≡ x.content) × Hold m xs
 
 -- ---- what effects leave of a state
 

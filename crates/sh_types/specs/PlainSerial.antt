@@ -15,10 +15,11 @@ abbrev pub goes_for : Image → (hart left : ℕ) → Unmoved → ℕ
 goes_for i h zero u = 0
 goes_for i h (suc k) u = if can_go u h then suc (goes_for i h k (unmoved_step i h u)) else 0
 
--- one hart number for each instruction
+-- the instructions of a turn, one hart number for each
 abbrev pub written_turn : Turn → List ℕ
 written_turn t = replicate t.count t.hart
 
+-- and so of a list of turns
 abbrev pub written_turns : List Turn → List ℕ
 written_turns [] = []
 written_turns (t ∷ ts) = written_turn t ++ written_turns ts
