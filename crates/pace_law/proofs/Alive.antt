@@ -17,12 +17,12 @@ use Rattle.sh_types.specs.Need.{Outcome, Goes, Puts, Calls, Quits, Traps, Leaks,
 use Rattle.sh_types.specs.Operands.{reads_ra, both_ra, computed, width_of, is_lr, is_sc}
 use Rattle.sh_types.specs.Arithmetic.{compare_of}
 use Rattle.sh_types.specs.Tokens.{jump_number}
-use Rattle.sh_types.specs.Unmoved.{Thread, Cell, Number, Return, is_return, next_of, goes, reserves, set_thread, load_cell, store_cell, reserve_cell, store_if, amo_cell, atomic_cell, save_cell, take_cell, save_by, call_by, jump_by, back_to, thread_does, thread_needs, Unmoved, any_alive, end_if, thread_loses, threads_lose, ended_thread, new_thread, then_call, thread_asks, then_leaves, on_thread, goes_still, is_alive, can_go, unmoved_step, unmoved_from, unmoved_start, unmoved_run}
+use Rattle.sh_types.specs.Unmoved.{Thread, Content, Number, Return, is_return, next_of, goes, reserves, set_thread, load_content, store_content, reserve_content, store_if, amo_content, atomic_content, save_content, take_content, save_by, call_by, jump_by, back_to, thread_does, thread_needs, Unmoved, any_alive, end_if, thread_loses, threads_lose, ended_thread, new_thread, then_call, thread_asks, then_leaves, on_thread, goes_still, is_alive, can_go, unmoved_step, unmoved_from, unmoved_start, unmoved_run}
 use Rattle.pace_law.proofs.Bools.{and_second}
 
 -- ---- a hart is live after its instruction, where that neither ends it nor the run
 
-abbrev OutLive : Thread → Outcome Thread Cell → Type 0
+abbrev OutLive : Thread → Outcome Thread Content → Type 0
 OutLive t (Goes t') = t'.live ≡ t.live
 OutLive t (Puts t' w c stored) = t'.live ≡ t.live
 OutLive t Calls = Unit {0}
@@ -30,38 +30,38 @@ OutLive t Quits = Unit {0}
 OutLive t (Traps k v) = Unit {0}
 OutLive t Leaks = Unit {0}
 
-record NeedIs (t : Thread) (u : ℕ → Cell) (need : Need Thread Cell) : Type 0 where
+record NeedIs (t : Thread) (u : ℕ → Content) (need : Need Thread Content) : Type 0 where
   is : OutLive t (answered need u)
 
-makes : (t : Thread) (u : ℕ → Cell) (out : Outcome Thread Cell) → OutLive t out → NeedIs t u (Makes out)
+makes : (t : Thread) (u : ℕ → Content) (out : Outcome Thread Content) → OutLive t out → NeedIs t u (Makes out)
 makes t u out o = record { is = o }
 
-if_out : (t : Thread) (b : Bool) (x y : Outcome Thread Cell) → OutLive t x → OutLive t y → OutLive t (if b then x else y)
+if_out : (t : Thread) (b : Bool) (x y : Outcome Thread Content) → OutLive t x → OutLive t y → OutLive t (if b then x else y)
 if_out t true x y p q = p
 if_out t false x y p q = q
 
-if_need : (t : Thread) (u : ℕ → Cell) (b : Bool) (x y : Need Thread Cell) → NeedIs t u x → NeedIs t u y → NeedIs t u (if b then x else y)
+if_need : (t : Thread) (u : ℕ → Content) (b : Bool) (x y : Need Thread Content) → NeedIs t u x → NeedIs t u y → NeedIs t u (if b then x else y)
 if_need t u true x y p q = p
 if_need t u false x y p q = q
 
-touching_live : (t : Thread) (u : ℕ → Cell) (mapped : ℕ → ℕ → Bool) (width : ℕ) (misaligned fault : Trap) (a : ℕ) (act : Cell → Outcome Thread Cell) → ((c : Cell) → OutLive t (act c)) → NeedIs t u (touching mapped width misaligned fault a act)
+touching_live : (t : Thread) (u : ℕ → Content) (mapped : ℕ → ℕ → Bool) (width : ℕ) (misaligned fault : Trap) (a : ℕ) (act : Content → Outcome Thread Content) → ((c : Content) → OutLive t (act c)) → NeedIs t u (touching mapped width misaligned fault a act)
 touching_live t u mapped width misaligned fault a act f =
     if_need t u (a % width == 0) (if mapped a width then Touches (a / 8) act else Makes (Traps fault a)) (Makes (Traps misaligned a)) (if_need t u (mapped a width) (Touches (a / 8) act) (Makes (Traps fault a)) (record { is = f (u (a / 8)) }) (record { is = tt })) (record { is = tt })
 
 -- behind a test on ra
-unless : (t : Thread) (u : ℕ → Cell) (b : Bool) (y : Need Thread Cell) → NeedIs t u y → NeedIs t u (if b then Makes Leaks else y)
+unless : (t : Thread) (u : ℕ → Content) (b : Bool) (y : Need Thread Content) → NeedIs t u y → NeedIs t u (if b then Makes Leaks else y)
 unless t u true y q = record { is = tt }
 unless t u false y q = q
 
-loads : (t : Thread) (i : Instr) (a : ℕ) (c : Cell) → OutLive t (load_cell t i a c)
+loads : (t : Thread) (i : Instr) (a : ℕ) (c : Content) → OutLive t (load_content t i a c)
 loads t i a (Number v) = refl
 loads t i a (Return k r) = tt
 
-stores : (t : Thread) (a width x : ℕ) (c : Cell) → OutLive t (store_cell t a width x c)
+stores : (t : Thread) (a width x : ℕ) (c : Content) → OutLive t (store_content t a width x c)
 stores t a width x (Number v) = refl
 stores t a width x (Return k r) = tt
 
-reserve : (t : Thread) (i : Instr) (a : ℕ) (c : Cell) → OutLive t (reserve_cell t i a c)
+reserve : (t : Thread) (i : Instr) (a : ℕ) (c : Content) → OutLive t (reserve_content t i a c)
 reserve t i a (Number v) = refl
 reserve t i a (Return k r) = tt
 
@@ -69,15 +69,15 @@ stores_if : (t : Thread) (i : Instr) (a x v : ℕ) (b : Bool) → OutLive t (sto
 stores_if t i a x v true = refl
 stores_if t i a x v false = refl
 
-atomic : (t : Thread) (i : Instr) (a x : ℕ) (c : Cell) → OutLive t (atomic_cell t i a x c)
-atomic t i a x (Number v) = if_out t (is_sc i.op) (store_if t i a x v (is_held t.reserved a (width_of i.op))) (amo_cell t i a x v) (stores_if t i a x v (is_held t.reserved a (width_of i.op))) refl
+atomic : (t : Thread) (i : Instr) (a x : ℕ) (c : Content) → OutLive t (atomic_content t i a x c)
+atomic t i a x (Number v) = if_out t (is_sc i.op) (store_if t i a x v (is_held t.reserved a (width_of i.op))) (amo_content t i a x v) (stores_if t i a x v (is_held t.reserved a (width_of i.op))) refl
 atomic t i a x (Return k r) = tt
 
-saves : (t : Thread) (a : ℕ) (r : CodeRef) (c : Cell) → OutLive t (save_cell t a r c)
+saves : (t : Thread) (a : ℕ) (r : CodeRef) (c : Content) → OutLive t (save_content t a r c)
 saves t a r (Number v) = refl
 saves t a r (Return k s) = tt
 
-takes : (t : Thread) (a : ℕ) (c : Cell) → OutLive t (take_cell t a c)
+takes : (t : Thread) (a : ℕ) (c : Content) → OutLive t (take_content t a c)
 takes t a (Number v) = tt
 takes t a (Return k r) = by (k == t.number)
   where
@@ -85,9 +85,9 @@ takes t a (Return k r) = by (k == t.number)
     by true = refl
     by false = tt
 
-saves_by : (t : Thread) (u : ℕ → Cell) (can_write : ℕ → ℕ → Bool) (a : ℕ) (ra : Option CodeRef) → NeedIs t u (save_by can_write t a ra)
+saves_by : (t : Thread) (u : ℕ → Content) (can_write : ℕ → ℕ → Bool) (a : ℕ) (ra : Option CodeRef) → NeedIs t u (save_by can_write t a ra)
 saves_by t u can_write a None = record { is = tt }
-saves_by t u can_write a (Some r) = touching_live t u can_write 8 trap.Misaligned trap.Store a (λ c. save_cell t a r c) (saves t a r)
+saves_by t u can_write a (Some r) = touching_live t u can_write 8 trap.Misaligned trap.Store a (λ c. save_content t a r c) (saves t a r)
 
 calls_by : (t : Thread) (v : ℕ) (p : Option Pair) → OutLive t (call_by t v p)
 calls_by t v None = tt
@@ -102,27 +102,27 @@ backs t None = tt
 backs t (Some Root) = tt
 backs t (Some (At p)) = refl
 
-does_live : (regions : List Region) (t : Thread) (k : Kind Pair) (u : ℕ → Cell) → NeedIs t u (thread_does regions t k)
+does_live : (regions : List Region) (t : Thread) (k : Kind Pair) (u : ℕ → Content) → NeedIs t u (thread_does regions t k)
 does_live regions t (Sets rd v) u = record { is = refl }
 does_live regions t (Computes i) u = unless t u (is_return t.ra && reads_ra i) (Makes (Goes (set_thread t i.rd (computed i (slice_index t.regs i.rs1) (slice_index t.regs i.rs2))))) (record { is = refl })
 does_live regions t Passes u = record { is = refl }
 does_live regions t (Loads i) u =
     let a = plus_imm (slice_index t.regs i.rs1) i.imm in
-    unless t u (is_return t.ra && (i.rs1 == 1)) (touching (readable regions) (width_of i.op) trap.Misaligned trap.Load a (λ c. load_cell t i a c)) (touching_live t u (readable regions) (width_of i.op) trap.Misaligned trap.Load a (λ c. load_cell t i a c) (loads t i a))
+    unless t u (is_return t.ra && (i.rs1 == 1)) (touching (readable regions) (width_of i.op) trap.Misaligned trap.Load a (λ c. load_content t i a c)) (touching_live t u (readable regions) (width_of i.op) trap.Misaligned trap.Load a (λ c. load_content t i a c) (loads t i a))
 does_live regions t (Stores i) u =
     let a = plus_imm (slice_index t.regs i.rs1) i.imm in
     let x = slice_index t.regs i.rs2 in
-    unless t u (is_return t.ra && both_ra i) (touching (writable regions) (width_of i.op) trap.Misaligned trap.Store a (λ c. store_cell t a (width_of i.op) x c)) (touching_live t u (writable regions) (width_of i.op) trap.Misaligned trap.Store a (λ c. store_cell t a (width_of i.op) x c) (stores t a (width_of i.op) x))
+    unless t u (is_return t.ra && both_ra i) (touching (writable regions) (width_of i.op) trap.Misaligned trap.Store a (λ c. store_content t a (width_of i.op) x c)) (touching_live t u (writable regions) (width_of i.op) trap.Misaligned trap.Store a (λ c. store_content t a (width_of i.op) x c) (stores t a (width_of i.op) x))
 does_live regions t (Atomics i) u =
     let a = slice_index t.regs i.rs1 in
     let x = slice_index t.regs i.rs2 in
-    let reserving : Need Thread Cell = touching (readable regions) (width_of i.op) trap.Misaligned trap.Load a (λ c. reserve_cell t i a c) in
-    let storing : Need Thread Cell = touching (writable regions) (width_of i.op) trap.Misaligned trap.Store a (λ c. atomic_cell t i a x c) in
-    unless t u (is_return t.ra && both_ra i) (if is_lr i.op then reserving else storing) (if_need t u (is_lr i.op) reserving storing (touching_live t u (readable regions) (width_of i.op) trap.Misaligned trap.Load a (λ c. reserve_cell t i a c) (reserve t i a)) (touching_live t u (writable regions) (width_of i.op) trap.Misaligned trap.Store a (λ c. atomic_cell t i a x c) (atomic t i a x)))
+    let reserving : Need Thread Content = touching (readable regions) (width_of i.op) trap.Misaligned trap.Load a (λ c. reserve_content t i a c) in
+    let storing : Need Thread Content = touching (writable regions) (width_of i.op) trap.Misaligned trap.Store a (λ c. atomic_content t i a x c) in
+    unless t u (is_return t.ra && both_ra i) (if is_lr i.op then reserving else storing) (if_need t u (is_lr i.op) reserving storing (touching_live t u (readable regions) (width_of i.op) trap.Misaligned trap.Load a (λ c. reserve_content t i a c) (reserve t i a)) (touching_live t u (writable regions) (width_of i.op) trap.Misaligned trap.Store a (λ c. atomic_content t i a x c) (atomic t i a x)))
 does_live regions t (Saves imm) u = saves_by t u (writable regions) (plus_imm (slice_index t.regs 2) imm) t.ra
 does_live regions t (Restores imm) u =
     let a = plus_imm (slice_index t.regs 2) imm in
-    touching_live t u (readable regions) 8 trap.Misaligned trap.Load a (λ c. take_cell t a c) (takes t a)
+    touching_live t u (readable regions) 8 trap.Misaligned trap.Load a (λ c. take_content t a c) (takes t a)
 does_live regions t (CallsTo p) u = record { is = refl }
 does_live regions t (JumpsTo p) u = record { is = refl }
 does_live regions t (Branches i p) u =
@@ -139,7 +139,7 @@ does_live regions t Breaks u = record { is = tt }
 does_live regions t Illegal u = record { is = tt }
 does_live regions t Past u = record { is = tt }
 
-needs_live : (i : Image) (t : Thread) (u : ℕ → Cell) → OutLive t (answered (thread_needs i t) u)
+needs_live : (i : Image) (t : Thread) (u : ℕ → Content) → OutLive t (answered (thread_needs i t) u)
 unfolding thread_needs
 needs_live i t u = (does_live i.regions t (kind_at i t.at) u).is
 
@@ -191,7 +191,7 @@ call_live u n t (ExitsHart code) e l = λ q. ended_live (any_alive (slice_set u.
 call_live u n t (ExitsRun code) e l = λ q. absurd (cc)
 call_live u n t LeaksWord e l = λ q. absurd (cc)
 
-out_live : (i : Image) (u : Unmoved) (n : ℕ) (t : Thread) (out : Outcome Thread Cell) → slice_get u.threads n ≡ Some t → t.live ≡ true → OutLive t out → StillLive (then_leaves i u n t out)
+out_live : (i : Image) (u : Unmoved) (n : ℕ) (t : Thread) (out : Outcome Thread Content) → slice_get u.threads n ≡ Some t → t.live ≡ true → OutLive t out → StillLive (then_leaves i u n t out)
 out_live i u n t (Goes t') e l o = λ q. set_alive u.threads n t t' e (o ∙ l)
 out_live i u n t (Puts t' w c stored) e l o = λ q. lose_alive n stored (slice_set u.threads n t') ∙ set_alive u.threads n t t' e (o ∙ l)
 out_live i u n t Calls e l o = call_live u n t (call_of i.regions i.rows (thread_asks u t)) e l
@@ -205,7 +205,7 @@ step_live i n u s = by (can_go u n) refl
   where
     at : (x : Option Thread) → slice_get u.threads n ≡ x → is_alive x ≡ true → StillLive (on_thread i u n x)
     at None e l = s
-    at (Some t) e l = out_live i u n t _ e l (needs_live i t u.cells)
+    at (Some t) e l = out_live i u n t _ e l (needs_live i t u.contents)
 
     by : (b : Bool) → can_go u n ≡ b → StillLive (if b then on_thread i u n (slice_get u.threads n) else u)
     by true c = at (slice_get u.threads n) refl (and_second (goes_still u.end) _ c)

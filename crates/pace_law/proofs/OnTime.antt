@@ -10,7 +10,7 @@ use Rattle.sh_types.specs.Copy.{wiped_copy}
 use Rattle.sh_types.specs.Event.{instructions, is_live, can_run, can_all, state_after, IsLegalIn, written}
 use Rattle.sh_types.specs.Pace.{Pace, is_among, paced_on, keeps_pace, pace_after, IsPaced}
 use Rattle.sh_types.specs.Shuffled.{Setting, Shuffled, shuffled_step}
-use Rattle.sh_types.specs.Unmoved.{goes_still}
+use Rattle.sh_types.specs.Unmoved.{is_alive, goes_still}
 use Rattle.sh_law.specs.Paced.{StandsPaced}
 use Rattle.sh_law.proofs.Prefixes.{state_more, legal_more, legal_before, legal_after, pace_more, paced_more, paced_before, paced_after}
 use Rattle.pace_law.specs.Copies.{RunsOnTime}
@@ -68,7 +68,7 @@ module _ (o : Setting) (period : ℕ) (positive : 1 ≤ period) (step : (es : Li
       let p0 = paced_before o.image o.input period before (Run n k ∷ after) p in
       let keeps : keeps_pace period (Run n k) b ≡ true = and_first _ _ (paced_after o.image o.input period before (Run n k ∷ after) p) in
       let can : can_all o n k (state_after o before) ≡ true = and_second (nat_lt 0 k) _ (legal_after o before (Run n k ∷ after) l).0 in
-      let nb : is_among n b.behind ≡ false = not_so _ (and_first _ _ keeps) in
+      let nb : is_among n b.behind ≡ false = not_so _ (and_first _ _ (and_second (is_alive (slice_get b.guest.threads n)) _ keeps)) in
       let st = stands before l0 p0 in
       let time = run_copy period b n k m positive (step before l0 p0) keeps lt in
       by m l0 p0 keeps can nb st time lt
@@ -86,9 +86,9 @@ module _ (o : Setting) (period : ℕ) (positive : 1 ≤ period) (step : (es : Li
           let q : state_after o es ≡ instructions o n (suc m) (state_after o before) = state_more o before (Run n (suc m) ∷ []) in
           let r : pace_after o.image o.input es ≡ paced_on o.image (Run n (suc m)) b = pace_more o.image o.input before (Run n (suc m) ∷ []) in
           let l1 : IsLegalIn o es = legal_more o before (Run n (suc m) ∷ []) l0 (both_true _ _ (lt_of (suc m) (omega arith)) (all_first o n (suc m) k (state_after o before) (omega (arith, lt)) can), tt) in
-          let le : b.count + k ≤ period * b.newest = le_of (b.count + k) (period * b.newest) (and_second (not (is_among n b.behind)) _ keeps) in
+          let le : b.count + k ≤ period * b.newest = le_of (b.count + k) (period * b.newest) (and_second (not (is_among n b.behind)) _ (and_second (is_alive (slice_get b.guest.threads n)) _ keeps)) in
           let room : nat_le (b.count + suc m) (period * b.newest) ≡ true = small (b.count + suc m) (period * b.newest) (omega (arith, le, lt)) in
-          let p1 : IsPaced o.image o.input period es = paced_more o.image o.input period before (Run n (suc m) ∷ []) p0 (both_true _ _ (both_true _ _ (and_first _ _ keeps) room) refl) in
+          let p1 : IsPaced o.image o.input period es = paced_more o.image o.input period before (Run n (suc m) ∷ []) p0 (both_true _ _ (both_true _ _ (and_first _ _ keeps) (both_true _ _ (and_first _ _ (and_second (is_alive (slice_get b.guest.threads n)) _ keeps)) room)) refl) in
           let s1 = stands es l1 p1 in
           let nb1 : is_among n (pace_after o.image o.input es).behind ≡ false = ap (λ (x : Pace). is_among n x.behind) r ∙ nb in
           let count : (state_after o es).count ≡ b.count + suc m = s1.count ∙ ap (λ (x : Pace). x.count) r in

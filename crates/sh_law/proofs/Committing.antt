@@ -15,7 +15,7 @@ use Rattle.sh_types.specs.Need.{Outcome, Goes, Puts, Calls, Quits, Traps, Leaks,
 use Rattle.sh_types.specs.Notes.{Touched, Ahead, over, touch, touch_if, more_stores, next_needs, goes_ahead, ahead_from, set_off, ahead_of, effects_in, effects_of, notes_of, Hold, harts_lose_all, with_effects}
 use Rattle.sh_types.specs.Shuffled.{Setting, Owned, reserves_on, Shuffled, hart_loses, harts_lose, after, moved_of, on_hart, shuffled_step}
 use Rattle.sh_types.specs.StandsFor.{layout_number, layouts_of}
-use Rattle.sh_types.specs.Unmoved.{Thread, Cell, thread_needs, Unmoved, goes_still, unmoved_step, unmoved_run}
+use Rattle.sh_types.specs.Unmoved.{Thread, Content, thread_needs, Unmoved, goes_still, unmoved_step, unmoved_run}
 use Rattle.sh_law.specs.Agrees.{Agrees}
 use Rattle.sh_law.specs.Done.{AreDone}
 use Rattle.sh_law.specs.Keeps.{IsCipher}
@@ -127,7 +127,7 @@ OutSame h Quits = Unit {0}
 OutSame h (Traps k v) = Unit {0}
 OutSame h Leaks = Unit {0}
 
-both_same : (o : Setting) (on : ℕ → Layout) (h : Hart) (t : Thread) (x : Outcome Hart Owned) (y : Outcome Thread Cell) → h.number ≡ t.number → h.live ≡ t.live → Agrees o on h t x y → OutSame h x
+both_same : (o : Setting) (on : ℕ → Layout) (h : Hart) (t : Thread) (x : Outcome Hart Owned) (y : Outcome Thread Content) → h.number ≡ t.number → h.live ≡ t.live → Agrees o on h t x y → OutSame h x
 both_same o on h t (Goes h') (Goes t') n l a = (a.stands.number ∙ a.number ∙ sym n, a.stands.live ∙ a.live ∙ sym l)
 both_same o on h t (Goes h') (Puts t' w c b) n l a = absurd a
 both_same o on h t (Goes h') Calls n l a = absurd a
@@ -214,8 +214,8 @@ module _ (cipher : IsCipher) (o : Setting) (fi : IsSetting o) (s : Shuffled) (n 
       by (Some t) e gs =
           let ok = g.ok n t e in
           let is : layouts_of o sa.harts t.number ≡ o.layout_at a.hart.layout = ap (layouts_of o sa.harts) ok.number ∙ ap (λ x. o.layout_at (layout_number x)) (found a so.number) in
-          let agrees = one_agrees cipher o fi (layouts_of o sa.harts) a.hart t sa.words so.guest.cells is g.stands.words gs (gs.runs so.live) ok.many (ok.sound (sym gs.live ∙ so.live)) in
-          subst (OutSame a.hart) (moved_is a) (both_same o (layouts_of o sa.harts) a.hart t (moved_of o a.hart sa.words) (answered (thread_needs o.image t) so.guest.cells) gs.number gs.live agrees)
+          let agrees = one_agrees cipher o fi (layouts_of o sa.harts) a.hart t sa.words so.guest.contents is g.stands.words gs (gs.runs so.live) ok.many (ok.sound (sym gs.live ∙ so.live)) in
+          subst (OutSame a.hart) (moved_is a) (both_same o (layouts_of o sa.harts) a.hart t (moved_of o a.hart sa.words) (answered (thread_needs o.image t) so.guest.contents) gs.number gs.live agrees)
 
   -- after one more
   more : (a : Ahead) (so : IsSoFar a) (b : Ahead) → b.count ≡ a.count + 1 → instructions o n (a.count + 1) s ≡ with_effects n (effects_in b) s → b.hart.number ≡ a.hart.number → b.hart.live ≡ a.hart.live → IsSoFar b

@@ -13,7 +13,7 @@ use Rattle.sh_types.specs.Need.{Outcome, Goes, Puts, Calls, Quits, Traps, Leaks,
 use Rattle.sh_types.specs.Next.{all_go, is_none, may_come}
 use Rattle.sh_types.specs.Pace.{Pace, live_from, without, is_among, paced_on, keeps_pace, pace_after, IsPaced}
 use Rattle.sh_types.specs.Shuffled.{Setting, Owned, Shuffled, set_hart, ended_hart, hart_loses, harts_lose, reserves_on, new_hart, after_call, hart_asks, after, moved_of, on_hart, shuffled_step}
-use Rattle.sh_types.specs.Unmoved.{Thread, Unmoved, goes_still, can_go, unmoved_step, unmoved_run}
+use Rattle.sh_types.specs.Unmoved.{Thread, Unmoved, is_alive, goes_still, can_go, unmoved_step, unmoved_run}
 use Rattle.sh_law.specs.Keeps.{IsCipher}
 use Rattle.sh_law.specs.Paced.{AreOn, StandsPaced}
 use Rattle.sh_law.specs.Sound.{IsOn, Stays}
@@ -183,7 +183,7 @@ module _ (cipher : IsCipher) (o : Setting) (fi : IsSetting o) where
       record {
         off = λ m a.
             let x = w.off m a in
-            let ne : m ≢ n = λ r. clash _ (subst (λ y. is_among y b.behind ≡ true) r a) (not_true _ (and_first _ _ p)) in
+            let ne : m ≢ n = λ r. clash _ (subst (λ y. is_among y b.behind ≡ true) r a) (not_true _ (and_first _ _ (and_second (is_alive (slice_get b.guest.threads n)) _ p))) in
             record { layout = x.layout; there = there_all o k n m x.layout s ne x.there; off = λ r. x.off (r ∙ same.newest) };
         apart = w.apart;
       }

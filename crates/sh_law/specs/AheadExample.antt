@@ -7,6 +7,7 @@ use Rattle.sh_types.specs.declared.code.Site.TheVariants.{Plain, Stop}
 use Rattle.sh_types.specs.declared.runs.Hart.{Hart}
 use Rattle.sh_types.specs.declared.runs.Stored.{Stored}
 use Rattle.sh_types.specs.Frame.{frame}
+use Rattle.sh_types.specs.Limits.{cell_count, most_harts}
 use Rattle.sh_types.specs.Notes.{Note, notes_of, effects_of}
 use Rattle.sh_types.specs.Place.{cell_start}
 use Rattle.sh_types.specs.Shuffled.{Setting, owned, Shuffled}
@@ -38,7 +39,7 @@ tries =
 -- each layout in a region of its own
 abbrev pub tries_setting : Setting
 tries_setting =
-    record { image = tries; input = []; layout_at = λ k. record { number = k; cell = k % 256; places = cell_start (k % 256) ∷ []; sizes = 12 ∷ []; keys = keys_from 64 (64 * k + 1) } }
+    record { image = tries; input = []; layout_at = λ k. record { number = k; cell = k % cell_count; places = cell_start (k % cell_count) ∷ []; sizes = 12 ∷ []; keys = keys_from most_harts (most_harts * k + 1) } }
 
 -- a word with its value and owner
 abbrev pub note : ℕ → ℕ → Option ℕ → Note
