@@ -11,7 +11,7 @@ use Rattle.sh_types.specs.Need.{Outcome, Goes, Puts, Calls, Quits, Traps, Leaks,
 use Rattle.sh_types.specs.Serial.{is_call, thread_calls, calls_next, further, run_length}
 use Rattle.sh_types.specs.Tokens.{row_named}
 use Rattle.sh_types.specs.Unmoved.{Thread, Cell, thread_needs, thread_loses, threads_lose, set_thread, ended_thread, Unmoved, then_leaves, then_call, thread_asks, any_alive, goes_still, is_alive, can_go, on_thread, unmoved_step, unmoved_from, unmoved_start, first_thread}
-use Rattle.pace_law.proofs.Alive.{IsLively, step_lively, start_lively}
+use Rattle.pace_law.proofs.Alive.{StillLive, step_live, start_live}
 use Rattle.hart_runner.specs.Built.{call_number, is_built_call, comes_to_other}
 use Rattle.hart_runner.specs.First.{IsAlone}
 use Rattle.hart_runner.proofs.Tests.{and_first, and_second, no_call}
@@ -90,14 +90,14 @@ out_one i u t Leaks n e = (t, e)
 
 -- ---- whole states
 
-alone : (u : Unmoved) → IsLively u → Only u.threads → IsAlone u
+alone : (u : Unmoved) → StillLive u → Only u.threads → IsAlone u
 alone u v o = record { thread = o.0; threads = o.1; lives = λ g. lives o.0.live (subst (λ ts. any_alive ts ≡ true) o.1 (v g)) }
   where
     lives : (b : Bool) → (b || false) ≡ true → b ≡ true
     lives true e = refl
     lives false e = e
 
-lively : (u : Unmoved) → IsAlone u → IsLively u
+lively : (u : Unmoved) → IsAlone u → StillLive u
 lively u a = λ g. ap any_alive a.threads ∙ ap (λ b. b || false) (a.lives g)
 
 pub first_is : (u : Unmoved) (a : IsAlone u) → slice_get u.threads 0 ≡ Some a.thread
@@ -126,7 +126,7 @@ step_only i u a n = by (can_go u 0)
     by false = (a.thread, a.threads)
 
 pub step_alone : (i : Image) (u : Unmoved) → IsAlone u → comes_to_other i u ≡ false → IsAlone (unmoved_step i 0 u)
-step_alone i u a n = alone (unmoved_step i 0 u) (step_lively i 0 u (lively u a)) (step_only i u a n)
+step_alone i u a n = alone (unmoved_step i 0 u) (step_live i 0 u (lively u a)) (step_only i u a n)
 
 further_alone : (i : Image) (k : ℕ) (u : Unmoved) → IsAlone u → IsAlone (unmoved_from i (replicate (further i 0 k u) 0) u)
 further_alone i zero u a = a
@@ -143,4 +143,4 @@ run_alone i zero u a n = a
 run_alone i (suc left) u a n = further_alone i left (unmoved_step i 0 u) (step_alone i u a n)
 
 pub start_alone : (i : Image) (input : List ℕ) → IsAlone (unmoved_start i input)
-start_alone i input = alone (unmoved_start i input) (start_lively i input) (first_thread i, refl)
+start_alone i input = alone (unmoved_start i input) (start_live i input) (first_thread i, refl)

@@ -9,7 +9,7 @@ use Rattle.sh_types.specs.Pace.{Pace, live_from, without, paced_on, followed, al
 use Rattle.sh_types.specs.Serial.{migrations, cleared_away, publication, boundary, is_due, ready}
 use Rattle.sh_types.specs.Unmoved.{Unmoved, goes_still}
 use Rattle.pace_law.specs.Step.{InStep}
-use Rattle.pace_law.proofs.Keeping.{keep_append}
+use Rattle.sh_law.proofs.Prefixes.{keep_append}
 use Rattle.pace_law.proofs.Serials.{with_behind, without_first, all_move, moves_keep, cleared_follows, cleared_keeps, due_now}
 use Rattle.shuf_machine.specs.Past.{Past}
 use Rattle.hart_runner.specs.Standing.{image_in, pace_of, with_events, Still, IsPart, IsInPace, IsAtPublication, first_of}

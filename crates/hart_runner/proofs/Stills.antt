@@ -2,7 +2,7 @@
 use Rattle.std.proofs.Common.{◌≡◌, ℕ, List, [], ◌∷◌, ◌++◌, Result, Ok, Err, OnOk, OnErr, refl, sym, ap, ◌∙◌, subst, append_assoc, append-nil}
 use Rattle.sh_types.specs.declared.runs.Event.{Event}
 use Rattle.sh_types.specs.Pace.{paced_on, followed}
-use Rattle.pace_law.proofs.Keeping.{pace_more}
+use Rattle.sh_law.proofs.Prefixes.{pace_more}
 use Rattle.shuf_machine.specs.declared.answers.Origin.{Origin}
 use Rattle.shuf_machine.specs.Past.{Past}
 use Rattle.hart_runner.specs.Standing.{image_in, pace_of, with_events, Still, IsPart}

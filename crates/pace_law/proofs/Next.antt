@@ -1,11 +1,11 @@
 -- The hart of the next turn can go.
-use Rattle.std.proofs.Common.{◌≡◌, ℕ, zero, suc, ◌+◌, ◌&&◌, Bool, true, false, List, [], ◌∷◌, refl, sym, ap, ◌∙◌, subst, arith}
+use Rattle.std.proofs.Common.{◌≡◌, ℕ, suc, ◌+◌, Bool, true, false, List, [], ◌∷◌, refl, ap, ◌∙◌, arith}
 use Rattle.std.specs.Prelude.{◌||◌, nat_le, if◌then◌else◌, slice_get}
 use Rattle.sh_types.specs.declared.code.Image.{Image}
 use Rattle.sh_types.specs.Pace.{live_from}
 use Rattle.sh_types.specs.Serial.{first_or, next_from, next_hart}
-use Rattle.sh_types.specs.Unmoved.{Thread, Unmoved, any_alive, goes_still, is_alive, can_go, unmoved_run, unmoved_start}
-use Rattle.pace_law.proofs.Alive.{run_lively, start_lively}
+use Rattle.sh_types.specs.Unmoved.{Thread, Unmoved, any_alive, goes_still, is_alive, can_go, unmoved_run}
+use Rattle.pace_law.proofs.Alive.{run_live}
 use Rattle.pace_law.proofs.Bools.{both_true}
 
 -- the test holds of each number
@@ -48,7 +48,6 @@ next_alive low u a =
     next_each p low (live_from 0 u.threads) (first_or 0 (live_from 0 u.threads)) each (first_each p u.threads 0 a each)
 
 pub next_goes : (i : Image) (input ns : List ℕ) (low : ℕ) → goes_still (unmoved_run i input ns).end ≡ true → can_go (unmoved_run i input ns) (next_hart low (unmoved_run i input ns)) ≡ true
-unfolding unmoved_run
 next_goes i input ns low g =
     let u : Unmoved = unmoved_run i input ns in
-    both_true _ _ g (next_alive low u (run_lively i ns (unmoved_start i input) (start_lively i input) g))
+    both_true _ _ g (next_alive low u (run_live i input ns g))
