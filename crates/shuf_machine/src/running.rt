@@ -6,11 +6,13 @@ ghost use Rattle.sh_types.specs.Serial.{run_length};
 ghost use Rattle.sh_types.specs.Unmoved.{unmoved_run};
 ghost use Rattle.shuf_machine.specs.Meant.{meant, IsMachine};
 ghost use Rattle.shuf_machine.specs.Ran.{IsRun, asked_in};
-ghost use Rattle.shuf_machine.specs.Refusal.{IsCause, live_no, run_no};
+ghost use Rattle.shuf_machine.specs.Refusal.{IsCause, run_no};
 ghost use Rattle.shuf_machine.specs.Run.{image_of, setting_of, shuffled_run};
 
 use crate::answers::{MachineNo, No};
 use crate::state::{Code, State};
+use crate::stepping::run_hart;
+use sh_law::runs_have_their_length;
 use sh_types::{Event, Fetch};
 
 /// Why no instruction of the hart can be run now, if so.
@@ -48,11 +50,18 @@ pub fn run<F: Fetch>(
     ensures cause { IfErr result (λ e. IsCause e (run_no (shuffled_run code.now.origin journal.old.items) at)) }
     ensures asked { IfOk result (λ n. Tells (F.asked fetch.old) (asked_in (setting_of code.now.origin) at limit n (shuffled_run code.now.origin journal.old.items)) (F.asked fetch.new)) }
 {
-    let _limit = limit;
-    let _fetch = fetch;
-    let _journal = &journal;
     if let Some(why) = refusal(code, state, at) {
         return Err(MachineNo::NotEnabled { why });
     }
-    Err(MachineNo::NoMemory)
+    if journal.reserve(1).is_err() {
+        return Err(MachineNo::NoMemory);
+    }
+    runs_have_their_length();
+    match run_hart(code, state, at, limit, fetch) {
+        Ok(count) => {
+            journal.push_reserved(Event::Run { hart: at, count });
+            Ok(count)
+        }
+        Err(_) => Err(MachineNo::NoMemory),
+    }
 }
