@@ -10,7 +10,7 @@ use Rattle.sh_types.specs.Memory.{bytes_from, readable}
 use Rattle.sh_types.specs.Need.{Outcome, Goes, Puts, Calls, Quits, Traps, Leaks, answered, stored_at}
 use Rattle.sh_types.specs.Serial.{is_call, thread_calls, calls_next, further, run_length}
 use Rattle.sh_types.specs.Tokens.{row_named}
-use Rattle.sh_types.specs.Unmoved.{Thread, Cell, thread_needs, thread_loses, threads_lose, set_thread, ended_thread, Unmoved, then_leaves, then_call, thread_asks, any_alive, goes_still, is_alive, can_go, on_thread, unmoved_step, unmoved_from, unmoved_start, first_thread}
+use Rattle.sh_types.specs.Unmoved.{Thread, Content, thread_needs, thread_loses, threads_lose, set_thread, ended_thread, Unmoved, then_leaves, then_call, thread_asks, any_alive, goes_still, is_alive, can_go, on_thread, unmoved_step, unmoved_from, unmoved_start, first_thread}
 use Rattle.pace_law.proofs.Alive.{StillLive, step_live, start_live}
 use Rattle.hart_runner.specs.Built.{call_number, is_built_call, comes_to_other}
 use Rattle.hart_runner.specs.First.{IsAlone}
@@ -80,7 +80,7 @@ call_one u t (ExitsHart code) n e = (ended_thread t code, set_one u.threads t (e
 call_one u t (ExitsRun code) n e = (t, e)
 call_one u t LeaksWord n e = (t, e)
 
-out_one : (i : Image) (u : Unmoved) (t : Thread) (x : Outcome Thread Cell) → (is_call x ≡ true → is_built_call (slice_index t.regs 17) ≡ true) → u.threads ≡ t ∷ [] → Only (then_leaves i u 0 t x).threads
+out_one : (i : Image) (u : Unmoved) (t : Thread) (x : Outcome Thread Content) → (is_call x ≡ true → is_built_call (slice_index t.regs 17) ≡ true) → u.threads ≡ t ∷ [] → Only (then_leaves i u 0 t x).threads
 out_one i u t (Goes t') n e = (t', set_one u.threads t t' e)
 out_one i u t (Puts t' w c stored) n e = lose_one stored (slice_set u.threads 0 t') t' (set_one u.threads t t' e)
 out_one i u t Calls n e = call_one u t (call_of i.regions i.rows (thread_asks u t)) (built_none i.regions i.rows (thread_asks u t) (n refl)) e
@@ -118,11 +118,11 @@ step_only i u a n = by (can_go u 0)
     built true false e l = sym e
     built false c e l = absurd (cc)
 
-    other : (thread_calls i u.cells (Some a.thread) && not (is_built_call (slice_index a.thread.regs 17))) ≡ false
-    other = subst (λ x. (thread_calls i u.cells x && not (is_built_call (call_number x))) ≡ false) (first_is u a) n
+    other : (thread_calls i u.contents (Some a.thread) && not (is_built_call (slice_index a.thread.regs 17))) ≡ false
+    other = subst (λ x. (thread_calls i u.contents x && not (is_built_call (call_number x))) ≡ false) (first_is u a) n
 
     by : (b : Bool) → Only (if b then on_thread i u 0 (slice_get u.threads 0) else u).threads
-    by true = subst (λ x. Only (on_thread i u 0 x).threads) (sym (first_is u a)) (out_one i u a.thread (answered (thread_needs i a.thread) u.cells) (built _ _ other) a.threads)
+    by true = subst (λ x. Only (on_thread i u 0 x).threads) (sym (first_is u a)) (out_one i u a.thread (answered (thread_needs i a.thread) u.contents) (built _ _ other) a.threads)
     by false = (a.thread, a.threads)
 
 pub step_alone : (i : Image) (u : Unmoved) → IsAlone u → comes_to_other i u ≡ false → IsAlone (unmoved_step i 0 u)

@@ -27,7 +27,7 @@ use Rattle.sh_types.specs.Operands.{reads_ra, both_ra, width_of, is_lr, is_sc}
 use Rattle.sh_types.specs.Tokens.{jump_number}
 use Rattle.sh_types.specs.Place.{IsPair, whose_of}
 use Rattle.sh_types.specs.Serial.{is_call, thread_calls, calls_next}
-use Rattle.sh_types.specs.Unmoved.{Thread, Cell, Number, Return, thread_does, thread_needs, load_cell, store_cell, reserve_cell, store_if, amo_cell, atomic_cell, save_cell, take_cell, save_by, back_to, call_by, jump_by, is_return, Unmoved}
+use Rattle.sh_types.specs.Unmoved.{Thread, Content, Number, Return, thread_does, thread_needs, load_content, store_content, reserve_content, store_if, amo_content, atomic_content, save_content, take_content, save_by, back_to, call_by, jump_by, is_return, Unmoved}
 use Rattle.sh_types.specs.Chain.{Sound}
 use Rattle.sh_types.specs.Shuffled.{Setting, Shuffled}
 use Rattle.sh_types.specs.StandsFor.{RunsAs, HartStands, HartsStand}
@@ -57,39 +57,39 @@ is_asks Breaks = false
 is_asks Illegal = false
 is_asks Past = false
 
-if_not : (b : Bool) (x y : Need Thread Cell) (m : ℕ → Cell) → is_call (answered x m) ≡ false → is_call (answered y m) ≡ false → is_call (answered (if b then x else y) m) ≡ false
+if_not : (b : Bool) (x y : Need Thread Content) (m : ℕ → Content) → is_call (answered x m) ≡ false → is_call (answered y m) ≡ false → is_call (answered (if b then x else y) m) ≡ false
 if_not true x y m p q = p
 if_not false x y m p q = q
 
-touching_not : (mp : ℕ → ℕ → Bool) (w : ℕ) (j f : Trap) (a : ℕ) (act : Cell → Outcome Thread Cell) (m : ℕ → Cell) → ((c : Cell) → is_call (act c) ≡ false) → is_call (answered (touching mp w j f a act) m) ≡ false
+touching_not : (mp : ℕ → ℕ → Bool) (w : ℕ) (j f : Trap) (a : ℕ) (act : Content → Outcome Thread Content) (m : ℕ → Content) → ((c : Content) → is_call (act c) ≡ false) → is_call (answered (touching mp w j f a act) m) ≡ false
 touching_not mp w j f a act m s =
     if_not (a % w == 0) (if mp a w then Touches (a / 8) act else Makes (Traps f a)) (Makes (Traps j a)) m (if_not (mp a w) (Touches (a / 8) act) (Makes (Traps f a)) m (s (m (a / 8))) refl) refl
 
-load_not : (t : Thread) (i : Instr) (a : ℕ) (c : Cell) → is_call (load_cell t i a c) ≡ false
+load_not : (t : Thread) (i : Instr) (a : ℕ) (c : Content) → is_call (load_content t i a c) ≡ false
 load_not t i a (Number v) = refl
 load_not t i a (Return k r) = refl
 
-store_not : (t : Thread) (a width x : ℕ) (c : Cell) → is_call (store_cell t a width x c) ≡ false
+store_not : (t : Thread) (a width x : ℕ) (c : Content) → is_call (store_content t a width x c) ≡ false
 store_not t a width x (Number v) = refl
 store_not t a width x (Return k r) = refl
 
-put_not : (t : Thread) (a : ℕ) (r : CodeRef) (c : Cell) → is_call (save_cell t a r c) ≡ false
+put_not : (t : Thread) (a : ℕ) (r : CodeRef) (c : Content) → is_call (save_content t a r c) ≡ false
 put_not t a r (Number v) = refl
 put_not t a r (Return k s) = refl
 
-if_out : (b : Bool) (x y : Outcome Thread Cell) → is_call x ≡ false → is_call y ≡ false → is_call (if b then x else y) ≡ false
+if_out : (b : Bool) (x y : Outcome Thread Content) → is_call x ≡ false → is_call y ≡ false → is_call (if b then x else y) ≡ false
 if_out true x y p q = p
 if_out false x y p q = q
 
-take_not : (t : Thread) (a : ℕ) (c : Cell) → is_call (take_cell t a c) ≡ false
+take_not : (t : Thread) (a : ℕ) (c : Content) → is_call (take_content t a c) ≡ false
 take_not t a (Number v) = refl
 take_not t a (Return k r) = if_out (k == t.number) _ Leaks refl refl
 
-save_not : (mp : ℕ → ℕ → Bool) (t : Thread) (a : ℕ) (r : Option CodeRef) (m : ℕ → Cell) → is_call (answered (save_by mp t a r) m) ≡ false
+save_not : (mp : ℕ → ℕ → Bool) (t : Thread) (a : ℕ) (r : Option CodeRef) (m : ℕ → Content) → is_call (answered (save_by mp t a r) m) ≡ false
 save_not mp t a None m = refl
-save_not mp t a (Some r) m = touching_not mp 8 _ _ a (λ c. save_cell t a r c) m (λ c. put_not t a r c)
+save_not mp t a (Some r) m = touching_not mp 8 _ _ a (λ c. save_content t a r c) m (λ c. put_not t a r c)
 
-reserve_not : (t : Thread) (i : Instr) (a : ℕ) (c : Cell) → is_call (reserve_cell t i a c) ≡ false
+reserve_not : (t : Thread) (i : Instr) (a : ℕ) (c : Content) → is_call (reserve_content t i a c) ≡ false
 reserve_not t i a (Number v) = refl
 reserve_not t i a (Return k r) = refl
 
@@ -97,8 +97,8 @@ store_if_not : (t : Thread) (i : Instr) (a x v : ℕ) (b : Bool) → is_call (st
 store_if_not t i a x v true = refl
 store_if_not t i a x v false = refl
 
-atomic_not : (t : Thread) (i : Instr) (a x : ℕ) (c : Cell) → is_call (atomic_cell t i a x c) ≡ false
-atomic_not t i a x (Number v) = if_out (is_sc i.op) _ (amo_cell t i a x v) (store_if_not t i a x v (is_held t.reserved a (width_of i.op))) refl
+atomic_not : (t : Thread) (i : Instr) (a x : ℕ) (c : Content) → is_call (atomic_content t i a x c) ≡ false
+atomic_not t i a x (Number v) = if_out (is_sc i.op) _ (amo_content t i a x v) (store_if_not t i a x v (is_held t.reserved a (width_of i.op))) refl
 atomic_not t i a x (Return k r) = refl
 
 call_not : (t : Thread) (v : ℕ) (to : Option Pair) → is_call (call_by t v to) ≡ false
@@ -114,20 +114,20 @@ back_not None t = refl
 back_not (Some Root) t = refl
 back_not (Some (At p)) t = refl
 
-pub calls_asks : (rs : List Region) (t : Thread) (k : Kind Pair) (m : ℕ → Cell) → is_call (answered (thread_does rs t k) m) ≡ is_asks k
+pub calls_asks : (rs : List Region) (t : Thread) (k : Kind Pair) (m : ℕ → Content) → is_call (answered (thread_does rs t k) m) ≡ is_asks k
 calls_asks rs t (Sets rd v) m = refl
 calls_asks rs t (Computes i) m = if_not (is_return t.ra && reads_ra i) (Makes Leaks) _ m refl refl
 calls_asks rs t Passes m = refl
-calls_asks rs t (Loads i) m = if_not (is_return t.ra && (i.rs1 == 1)) (Makes Leaks) _ m refl (touching_not (readable rs) (width_of i.op) _ _ (plus_imm (slice_index t.regs i.rs1) i.imm) (λ c. load_cell t i (plus_imm (slice_index t.regs i.rs1) i.imm) c) m (λ c. load_not t i (plus_imm (slice_index t.regs i.rs1) i.imm) c))
-calls_asks rs t (Stores i) m = if_not (is_return t.ra && both_ra i) (Makes Leaks) _ m refl (touching_not (writable rs) (width_of i.op) _ _ (plus_imm (slice_index t.regs i.rs1) i.imm) (λ c. store_cell t (plus_imm (slice_index t.regs i.rs1) i.imm) (width_of i.op) (slice_index t.regs i.rs2) c) m (λ c. store_not t (plus_imm (slice_index t.regs i.rs1) i.imm) (width_of i.op) (slice_index t.regs i.rs2) c))
+calls_asks rs t (Loads i) m = if_not (is_return t.ra && (i.rs1 == 1)) (Makes Leaks) _ m refl (touching_not (readable rs) (width_of i.op) _ _ (plus_imm (slice_index t.regs i.rs1) i.imm) (λ c. load_content t i (plus_imm (slice_index t.regs i.rs1) i.imm) c) m (λ c. load_not t i (plus_imm (slice_index t.regs i.rs1) i.imm) c))
+calls_asks rs t (Stores i) m = if_not (is_return t.ra && both_ra i) (Makes Leaks) _ m refl (touching_not (writable rs) (width_of i.op) _ _ (plus_imm (slice_index t.regs i.rs1) i.imm) (λ c. store_content t (plus_imm (slice_index t.regs i.rs1) i.imm) (width_of i.op) (slice_index t.regs i.rs2) c) m (λ c. store_not t (plus_imm (slice_index t.regs i.rs1) i.imm) (width_of i.op) (slice_index t.regs i.rs2) c))
 calls_asks rs t (Atomics i) m =
-    let reserve : Need Thread Cell = touching (readable rs) (width_of i.op) trap.Misaligned trap.Load (slice_index t.regs i.rs1) (λ c. reserve_cell t i (slice_index t.regs i.rs1) c) in
-    let change : Need Thread Cell = touching (writable rs) (width_of i.op) trap.Misaligned trap.Store (slice_index t.regs i.rs1) (λ c. atomic_cell t i (slice_index t.regs i.rs1) (slice_index t.regs i.rs2) c) in
-    let p : is_call (answered reserve m) ≡ false = touching_not (readable rs) (width_of i.op) trap.Misaligned trap.Load (slice_index t.regs i.rs1) (λ c. reserve_cell t i (slice_index t.regs i.rs1) c) m (λ c. reserve_not t i (slice_index t.regs i.rs1) c) in
-    let q : is_call (answered change m) ≡ false = touching_not (writable rs) (width_of i.op) trap.Misaligned trap.Store (slice_index t.regs i.rs1) (λ c. atomic_cell t i (slice_index t.regs i.rs1) (slice_index t.regs i.rs2) c) m (λ c. atomic_not t i (slice_index t.regs i.rs1) (slice_index t.regs i.rs2) c) in
+    let reserve : Need Thread Content = touching (readable rs) (width_of i.op) trap.Misaligned trap.Load (slice_index t.regs i.rs1) (λ c. reserve_content t i (slice_index t.regs i.rs1) c) in
+    let change : Need Thread Content = touching (writable rs) (width_of i.op) trap.Misaligned trap.Store (slice_index t.regs i.rs1) (λ c. atomic_content t i (slice_index t.regs i.rs1) (slice_index t.regs i.rs2) c) in
+    let p : is_call (answered reserve m) ≡ false = touching_not (readable rs) (width_of i.op) trap.Misaligned trap.Load (slice_index t.regs i.rs1) (λ c. reserve_content t i (slice_index t.regs i.rs1) c) m (λ c. reserve_not t i (slice_index t.regs i.rs1) c) in
+    let q : is_call (answered change m) ≡ false = touching_not (writable rs) (width_of i.op) trap.Misaligned trap.Store (slice_index t.regs i.rs1) (λ c. atomic_content t i (slice_index t.regs i.rs1) (slice_index t.regs i.rs2) c) m (λ c. atomic_not t i (slice_index t.regs i.rs1) (slice_index t.regs i.rs2) c) in
     if_not (is_return t.ra && both_ra i) (Makes Leaks) (if is_lr i.op then reserve else change) m refl (if_not (is_lr i.op) reserve change m p q)
 calls_asks rs t (Saves imm) m = save_not (writable rs) t (plus_imm (slice_index t.regs 2) imm) t.ra m
-calls_asks rs t (Restores imm) m = touching_not (readable rs) 8 _ _ (plus_imm (slice_index t.regs 2) imm) (λ c. take_cell t (plus_imm (slice_index t.regs 2) imm) c) m (λ c. take_not t (plus_imm (slice_index t.regs 2) imm) c)
+calls_asks rs t (Restores imm) m = touching_not (readable rs) 8 _ _ (plus_imm (slice_index t.regs 2) imm) (λ c. take_content t (plus_imm (slice_index t.regs 2) imm) c) m (λ c. take_not t (plus_imm (slice_index t.regs 2) imm) c)
 calls_asks rs t (CallsTo p) m = refl
 calls_asks rs t (JumpsTo p) m = refl
 calls_asks rs t (Branches i p) m = if_not (is_return t.ra && both_ra i) (Makes Leaks) _ m refl refl
@@ -200,8 +200,8 @@ kind_asks image p row f r = by (p.off == slice_index (sizes_of image) p.func) re
 pub other_is : (i : Image) (u : Unmoved) (t : Thread) (row : FrameState) → IsFine i → slice_get u.threads 0 ≡ Some t → row_at i t.at ≡ Some row → comes_to_other i u ≡ ((not (t.at.off == slice_index (sizes_of i) t.at.func) && is_environment (site_at i t.at)) && not (is_built_call (slice_index t.regs 17)))
 unfolding comes_to_other calls_next thread_needs
 other_is i u t row f e r =
-    ap (λ x. thread_calls i u.cells x && not (is_built_call (call_number x))) e
-    ∙ ap (λ b. b && not (is_built_call (slice_index t.regs 17))) (calls_asks i.regions t (kind_at i t.at) u.cells ∙ kind_asks i t.at row f r)
+    ap (λ x. thread_calls i u.contents x && not (is_built_call (call_number x))) e
+    ∙ ap (λ b. b && not (is_built_call (slice_index t.regs 17))) (calls_asks i.regions t (kind_at i t.at) u.contents ∙ kind_asks i t.at row f r)
 
 -- ---- the first hart
 
@@ -225,7 +225,7 @@ first_stands o s u h set st e live = by s.harts u.threads refl refl st.stands.ha
         let hst : HartStands o h t = subst (λ y. HartStands o y t) q stand.0 in
         let is : slice_get u.threads 0 ≡ Some t = ap (λ xs. slice_get xs 0) et in
         let runs : RunsAs (o.layout_at h.layout) h t = hst.runs live in
-        let sound : Sound o.image t u.cells = (st.ok 0 t is).sound (sym hst.live ∙ live) in
+        let sound : Sound o.image t u.contents = (st.ok 0 t is).sound (sym hst.live ∙ live) in
         let pair : IsPair (sizes_of o.image) t.at = set.image.frames.inside t.at sound.row sound.row_is in
         let pair_in : IsPair (o.layout_at h.layout).sizes t.at = subst (λ ss. IsPair ss t.at) (sym (set.sizes h.layout)) pair in
         record {

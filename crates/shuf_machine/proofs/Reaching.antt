@@ -15,7 +15,7 @@ use Rattle.sh_types.specs.Need.{Outcome, Goes, Puts, Calls, Quits, Traps, Leaks,
 use Rattle.sh_types.specs.Place.{IsPair, WellPlaced, place_of}
 use Rattle.sh_types.specs.Shuffled.{Setting, Owned, Shuffled, shuffled_step, kind_there, moved_of}
 use Rattle.sh_types.specs.StandsFor.{HartStands, HartsStand, layout_number, layouts_of}
-use Rattle.sh_types.specs.Unmoved.{Thread, Cell, Unmoved, thread_needs, unmoved_run}
+use Rattle.sh_types.specs.Unmoved.{Thread, Content, Unmoved, thread_needs, unmoved_run}
 use Rattle.sh_types.proofs.Copied.{place_in_copy, cell_length}
 use Rattle.sh_law.specs.Agrees.{Both, Agrees}
 use Rattle.sh_law.specs.Reach.{IsPlaced}
@@ -44,7 +44,7 @@ reached_more o n s r can =
 both_continues : (o : Setting) (h h' : Hart) (t t' : Thread) → HartStands o h t → Both o h t h' t' → Continues h h'
 both_continues o h h' t t' st b = (b.stands.live ∙ b.live ∙ sym st.live, b.stands.number ∙ b.number ∙ sym st.number, b.layout)
 
-agrees_continues : (o : Setting) (on : ℕ → Layout) (h : Hart) (t : Thread) (x : Outcome Hart Owned) (y : Outcome Thread Cell) → HartStands o h t → Agrees o on h t x y → OutContinues h x
+agrees_continues : (o : Setting) (on : ℕ → Layout) (h : Hart) (t : Thread) (x : Outcome Hart Owned) (y : Outcome Thread Content) → HartStands o h t → Agrees o on h t x y → OutContinues h x
 agrees_continues o on h t (Goes h') (Goes t') st a = both_continues o h h' t t' st a
 agrees_continues o on h t (Goes h') (Puts t' w c b) st a = absurd a
 agrees_continues o on h t (Goes h') Calls st a = absurd a
@@ -74,8 +74,8 @@ continues laws o s u n h fi st e live =
     let p = paired o s.harts u.threads n h st.stands.harts e in
     let ok = st.ok n p.0 p.1 in
     let on : layouts_of o s.harts p.0.number ≡ o.layout_at h.layout = ap (layouts_of o s.harts) ok.number ∙ ap (λ x. o.layout_at (layout_number x)) e in
-    agrees_continues o (layouts_of o s.harts) h p.0 (moved_of o h s.words) (answered (thread_needs o.image p.0) u.cells) p.2
-    (laws.agree o (layouts_of o s.harts) h p.0 s.words u.cells fi on st.stands.words p.2 (p.2.runs live) ok.many (ok.sound (sym p.2.live ∙ live)))
+    agrees_continues o (layouts_of o s.harts) h p.0 (moved_of o h s.words) (answered (thread_needs o.image p.0) u.contents) p.2
+    (laws.agree o (layouts_of o s.harts) h p.0 s.words u.contents fi on st.stands.words p.2 (p.2.runs live) ok.many (ok.sound (sym p.2.live ∙ live)))
 
 -- ---- a hart that can go
 

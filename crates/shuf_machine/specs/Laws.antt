@@ -11,7 +11,7 @@ use Rattle.sh_types.specs.Kind.{Restores, tables_of}
 use Rattle.sh_types.specs.Need.{answered, plus_imm}
 use Rattle.sh_types.specs.Shuffled.{Setting, Owned, moved_of, kind_there}
 use Rattle.sh_types.specs.StandsFor.{HartStands, RunsAs, WordsStand}
-use Rattle.sh_types.specs.Unmoved.{Thread, Cell, thread_needs, unmoved_run}
+use Rattle.sh_types.specs.Unmoved.{Thread, Content, thread_needs, unmoved_run}
 use Rattle.sh_law.specs.Agrees.{Agrees}
 use Rattle.sh_law.specs.Reach.{IsPlaced}
 use Rattle.sh_law.specs.Sound.{IsOn, Stays}
@@ -23,4 +23,4 @@ pub record Laws : Type 0 where
   pub on : (o : Setting) (events : List Event) (n : ℕ) (h : Hart) → IsSetting o → IsLegalIn o events → slice_get (state_after o events).harts n ≡ Some h → h.live ≡ true → IsOn (state_after o events).newest (state_after o events).older h.layout
   pub meets : (o : Setting) (events : List Event) (n : ℕ) (h : Hart) (imm : ℤ) → IsSetting o → IsLegalIn o events → slice_get (state_after o events).harts n ≡ Some h → h.live ≡ true → kind_there (tables_of o.image) (o.layout_at h.layout) h.pc (copied o.image (o.layout_at h.layout) h.pc) ≡ Restores imm → ((state_after o events).words (plus_imm (slice_index h.regs 2) imm / 8)).owner ≡ Some h.number
   pub stand : (o : Setting) (events : List Event) → IsSetting o → IsLegalIn o events → Stays o (state_after o events) (unmoved_run o.image o.input (written events))
-  pub agree : (o : Setting) (on : ℕ → Layout) (h : Hart) (t : Thread) (m : ℕ → Owned) (u : ℕ → Cell) → IsSetting o → on t.number ≡ o.layout_at h.layout → WordsStand on m u → HartStands o h t → RunsAs (o.layout_at h.layout) h t → length t.regs ≡ 32 → Sound o.image t u → Agrees o on h t (moved_of o h m) (answered (thread_needs o.image t) u)
+  pub agree : (o : Setting) (on : ℕ → Layout) (h : Hart) (t : Thread) (m : ℕ → Owned) (u : ℕ → Content) → IsSetting o → on t.number ≡ o.layout_at h.layout → WordsStand on m u → HartStands o h t → RunsAs (o.layout_at h.layout) h t → length t.regs ≡ 32 → Sound o.image t u → Agrees o on h t (moved_of o h m) (answered (thread_needs o.image t) u)
