@@ -1,5 +1,5 @@
 -- As long as the unmoved run goes on, a hart is live.
-use Rattle.std.proofs.Common.{◌≡◌, ℕ, zero, suc, ◌/◌, ◌%◌, ◌==◌, ◌&&◌, Bool, true, false, Option, Some, None, List, [], ◌∷◌, ◌++◌, length, refl, sym, ap, ◌∙◌, arith}
+use Rattle.std.proofs.Common.{◌≡◌, ℕ, zero, suc, ◌/◌, ◌%◌, ◌==◌, ◌&&◌, Bool, true, false, Option, Some, None, List, [], ◌∷◌, ◌++◌, length, refl, ap, ◌∙◌}
 use Rattle.std.specs.Prelude.{◌||◌, if◌then◌else◌, map, slice_get, slice_set, slice_index}
 use Rattle.sh_types.specs.declared.code.CodeRef.{CodeRef}
 use Rattle.sh_types.specs.declared.code.CodeRef.TheVariants.{Root, At}
@@ -16,7 +16,7 @@ use Rattle.sh_types.specs.Memory.{readable, writable}
 use Rattle.sh_types.specs.Need.{Outcome, Goes, Puts, Calls, Quits, Traps, Leaks, Need, Makes, Touches, answered, touching, plus_imm, kept_from, is_held, stored_at}
 use Rattle.sh_types.specs.Operands.{reads_ra, both_ra, width_of, is_lr, is_sc}
 use Rattle.sh_types.specs.Tokens.{jump_number}
-use Rattle.sh_types.specs.Unmoved.{Thread, Cell, Number, Return, thread_does, thread_needs, load_cell, store_cell, reserve_cell, store_if, amo_cell, atomic_cell, save_cell, take_cell, save_by, back_to, call_by, jump_by, set_thread, is_return, reserves, thread_loses, threads_lose, new_thread, Unmoved, then_leaves, then_call, thread_asks, ended_thread, end_if, any_alive, on_thread, goes_still, is_alive, can_go, unmoved_step, unmoved_from, unmoved_start}
+use Rattle.sh_types.specs.Unmoved.{Thread, Cell, Number, Return, thread_does, thread_needs, load_cell, store_cell, reserve_cell, store_if, amo_cell, atomic_cell, save_cell, take_cell, save_by, back_to, call_by, jump_by, set_thread, is_return, reserves, thread_loses, threads_lose, new_thread, Unmoved, then_leaves, then_call, thread_asks, end_if, any_alive, on_thread, goes_still, is_alive, can_go, unmoved_step, unmoved_from, unmoved_start}
 use Rattle.pace_law.proofs.Bools.{and_second}
 
 -- an instruction leaves the thread as live as it was, unless it ends
