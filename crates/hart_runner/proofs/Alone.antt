@@ -14,7 +14,7 @@ use Rattle.sh_types.specs.Unmoved.{Thread, Content, thread_needs, thread_loses, 
 use Rattle.pace_law.proofs.Alive.{StillLive, step_live, start_live}
 use Rattle.hart_runner.specs.Built.{call_number, is_built_call, comes_to_other}
 use Rattle.hart_runner.specs.First.{IsAlone}
-use Rattle.hart_runner.proofs.Tests.{and_first, and_second, no_call}
+use Rattle.hart_runner.proofs.Tests.{no_call}
 
 -- ---- write and exit start no hart
 

@@ -1,5 +1,5 @@
 -- In a paced journal each hart that is behind is live and not on the newest layout.
-use Rattle.std.proofs.Common.{◌≡◌, ◌≢◌, inl, inr, ℕ, zero, suc, ◌+◌, ◌==◌, ◌&&◌, ◌<◌, ◌≤◌, Bool, true, false, not, Option, Some, None, List, [], ◌∷◌, ◌++◌, length, refl, sym, ap, ◌∙◌, subst, arith}
+use Rattle.std.proofs.Common.{◌≡◌, ◌≢◌, inl, inr, ℕ, zero, suc, ◌+◌, ◌==◌, ◌&&◌, Bool, true, false, not, Option, Some, None, List, [], ◌∷◌, ◌++◌, length, refl, sym, ap, ◌∙◌, subst, arith}
 use Rattle.std.specs.Prelude.{if◌then◌else◌, slice_get, slice_set}
 use Rattle.std.proofs.lemmas.Bool.Decides.{nat_tests}
 use Rattle.sh_types.specs.declared.runs.Event.{Event}
@@ -10,7 +10,7 @@ use Rattle.sh_types.specs.Environment.{CallDid, Answers, Reads, Starts, ExitsHar
 use Rattle.sh_types.specs.Event.{instructions, migrated, migrate, is_off, after_event, is_allowed, shuffled_from, IsLegalFrom, state_after, IsLegalIn, written}
 use Rattle.sh_types.specs.Fine.{IsSetting}
 use Rattle.sh_types.specs.Need.{Outcome, Goes, Puts, Calls, Quits, Traps, Leaks, stored_at, kept_from}
-use Rattle.sh_types.specs.Pace.{Pace, live_from, without, is_among, paced_on, followed, keeps_pace, all_keep, opening_pace, pace_after, IsPaced}
+use Rattle.sh_types.specs.Pace.{Pace, without, is_among, paced_on, followed, keeps_pace, all_keep, opening_pace, pace_after, IsPaced}
 use Rattle.sh_types.specs.Shuffled.{Setting, Owned, Shuffled, set_hart, hart_loses, harts_lose, reserves_on, after_call, hart_asks, after, moved_of, on_hart, shuffled_step, shuffled_start}
 use Rattle.sh_types.specs.Unmoved.{Thread, Unmoved, goes_still, is_alive, unmoved_from, unmoved_start}
 use Rattle.sh_law.specs.Sound.{Stays, IsOn}

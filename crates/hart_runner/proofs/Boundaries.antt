@@ -1,18 +1,18 @@
 -- How what is still to come of a boundary shrinks, and that the journal keeps pace.
-use Rattle.std.proofs.Common.{◌≡◌, ℕ, ◌+◌, ◌-◌, ◌*◌, ◌==◌, ◌&&◌, ◌≤◌, ◌<◌, Bool, true, false, Option, Some, None, List, [], ◌∷◌, ◌++◌, length, refl, sym, ap, ◌∙◌, subst, arith, append-nil}
+use Rattle.std.proofs.Common.{◌≡◌, ℕ, ◌+◌, ◌-◌, ◌*◌, ◌==◌, ◌&&◌, ◌≤◌, ◌<◌, true, false, Some, None, List, [], ◌∷◌, ◌++◌, length, refl, sym, ap, ◌∙◌, subst, arith, append-nil}
 use Rattle.std.specs.Prelude.{if◌then◌else◌}
 use Rattle.std.proofs.lemmas.Bool.Decides.{nat_tests}
 use Rattle.sh_types.specs.declared.code.Image.{Image}
 use Rattle.sh_types.specs.declared.runs.Event.{Event}
 use Rattle.sh_types.specs.declared.runs.Event.TheVariants.{Migrate, Publish, Erase}
-use Rattle.sh_types.specs.Pace.{Pace, live_from, without, paced_on, followed, all_keep, opening_pace, pace_after, IsPaced}
+use Rattle.sh_types.specs.Pace.{Pace, live_from, without, paced_on, all_keep, opening_pace, pace_after, IsPaced}
 use Rattle.sh_types.specs.Serial.{migrations, cleared_away, publication, boundary, is_due, ready}
-use Rattle.sh_types.specs.Unmoved.{Unmoved, goes_still}
+use Rattle.sh_types.specs.Unmoved.{goes_still}
 use Rattle.pace_law.specs.Step.{InStep}
 use Rattle.sh_law.proofs.Prefixes.{keep_append}
 use Rattle.pace_law.proofs.Serials.{with_behind, without_first, all_move, moves_keep, cleared_follows, cleared_keeps, due_now}
 use Rattle.shuf_machine.specs.Past.{Past}
-use Rattle.hart_runner.specs.Standing.{image_in, pace_of, with_events, Still, IsPart, IsInPace, IsAtPublication, first_of}
+use Rattle.hart_runner.specs.Standing.{image_in, pace_of, with_events, Still, IsInPace, IsAtPublication, first_of}
 use Rattle.hart_runner.proofs.Stills.{still_first, still_on, still_last, pace_then, pace_next}
 
 -- ---- keeping pace

@@ -7,16 +7,16 @@ use Rattle.sh_types.specs.declared.code.Image.{Image}
 use Rattle.sh_types.specs.declared.runs.End.{End}
 use Rattle.sh_types.specs.declared.runs.Event.{Event}
 use Rattle.sh_types.specs.declared.runs.Event.TheVariants.{Run}
-use Rattle.sh_types.specs.Pace.{Pace, live_from, opening_pace, paced_on, pace_after}
+use Rattle.sh_types.specs.Pace.{Pace, live_from, paced_on, pace_after}
 use Rattle.sh_types.specs.Serial.{Schedule, run_length, turn, migrations, is_done, is_due, ready, boundary, first_or, next_from, next_hart, turn_limit, serial_from, serial_list}
 use Rattle.sh_types.specs.Unmoved.{Unmoved, goes_still, is_alive, can_go, unmoved_from, unmoved_start}
 use Rattle.pace_law.specs.Step.{InStep}
-use Rattle.pace_law.proofs.Length.{length_few, length_some}
+use Rattle.pace_law.proofs.Length.{length_few}
 use Rattle.shuf_machine.specs.declared.answers.Origin.{Origin}
 use Rattle.shuf_machine.specs.Past.{Past, opening}
 use Rattle.hart_runner.specs.Built.{comes_to_other, exits_or, exits_within, is_built}
 use Rattle.hart_runner.specs.First.{IsAlone, IsFirst}
-use Rattle.hart_runner.specs.Standing.{image_in, pace_of, with_events, Still}
+use Rattle.hart_runner.specs.Standing.{image_in, pace_of, with_events}
 use Rattle.hart_runner.proofs.Alone.{goes_alone, run_alone, start_alone}
 use Rattle.hart_runner.proofs.Exits.{exits_run, ended_exits, other_stops}
 use Rattle.hart_runner.proofs.Rounds.{Serving, serving_first, serving_on, served}
@@ -168,7 +168,7 @@ exits_ended : (e : Option End) → exits_or e false ≡ true → goes_still e �
 exits_ended None x = absurd (cc)
 exits_ended (Some e) x = refl
 
-from_opening : (s : Schedule) (p : Past) → p.journal ≡ [] → serial_from (image_in p) s (pace_of p) ≡ serial_list (image_in p) p.origin.input s
+pub from_opening : (s : Schedule) (p : Past) → p.journal ≡ [] → serial_from (image_in p) s (pace_of p) ≡ serial_list (image_in p) p.origin.input s
 unfolding serial_list pace_after
 from_opening s p e = ap (λ (x : Past). serial_from (image_in p) s (pace_of x)) (fresh p e)
 

@@ -1,10 +1,9 @@
 -- A hart of a machine, by the thread of the unmoved one.
-use Rattle.std.proofs.Common.{◌≡◌, ℕ, zero, suc, ◌+◌, ◌≤◌, ◌<◌, ◌==◌, ◌&&◌, nat_lt, Bool, true, false, Option, Some, None, List, [], ◌∷◌, length, refl, sym, ap, ◌∙◌, subst, arith}
+use Rattle.std.proofs.Common.{◌≡◌, ℕ, zero, suc, ◌+◌, ◌≤◌, ◌<◌, ◌==◌, nat_lt, Bool, true, false, Option, Some, None, List, [], ◌∷◌, length, refl, sym, ap, ◌∙◌, subst, arith}
 use Rattle.std.specs.Prelude.{slice_get, slice_index, if◌then◌else◌}
 use Rattle.std.proofs.lemmas.Bool.Decides.{nat_tests}
 use Rattle.sh_types.specs.declared.code.Image.{Image}
 use Rattle.sh_types.specs.declared.layouts.Layout.{Layout}
-use Rattle.sh_types.specs.declared.runs.End.{End}
 use Rattle.sh_types.specs.declared.runs.Hart.{Hart}
 use Rattle.sh_types.specs.Event.{can_run, is_live}
 use Rattle.sh_types.specs.Fine.{IsSetting}

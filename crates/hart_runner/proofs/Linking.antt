@@ -1,5 +1,5 @@
 -- A machine whose journal keeps pace, by its pace: which events on layouts it refuses.
-use Rattle.std.proofs.Common.{◌≡◌, ◌≢◌, ℕ, zero, suc, ◌+◌, ◌-◌, ◌==◌, ◌&&◌, ◌<◌, ◌≤◌, Bool, true, false, not, Option, Some, None, List, [], ◌∷◌, length, refl, sym, ap, ◌∙◌, subst, arith}
+use Rattle.std.proofs.Common.{◌≡◌, ℕ, zero, suc, ◌+◌, ◌-◌, ◌==◌, ◌&&◌, ◌<◌, ◌≤◌, Bool, true, false, not, Option, Some, None, List, [], ◌∷◌, length, refl, sym, ap, ◌∙◌, subst, arith}
 use Rattle.std.specs.Prelude.{if◌then◌else◌, cond, slice_get}
 use Rattle.std.specs.List.{position_from}
 use Rattle.std.proofs.lemmas.Bool.Decides.{nat_tests}
@@ -15,20 +15,16 @@ use Rattle.sh_law.proofs.Ciphers.{is_cipher}
 use Rattle.sh_law.proofs.Pacing.{paced_stands}
 use Rattle.layout_maker.specs.Layout.{layout_of}
 use Rattle.layout_epochs.specs.Epoch.{is_on}
-use Rattle.shuf_machine.specs.declared.answers.MachineNo.{MachineNo}
-use Rattle.shuf_machine.specs.declared.answers.MachineNo.TheVariants.{NotEnabled}
-use Rattle.shuf_machine.specs.declared.answers.No.{No}
 use Rattle.shuf_machine.specs.declared.answers.Origin.{Origin}
 use Rattle.shuf_machine.specs.declared.answers.No.TheVariants.{NoHart, OnNewest, OlderLive, NoOlder, WrongLayout}
 use Rattle.shuf_machine.specs.Past.{Past, state_of, guest_of}
-use Rattle.shuf_machine.specs.Refusal.{IsCause, unless_ended, hart_no, migrate_no, publish_no, on_no, erase_no}
+use Rattle.shuf_machine.specs.Refusal.{unless_ended, hart_no, migrate_no, publish_no, on_no, erase_no}
 use Rattle.shuf_machine.specs.Run.{setting_of, IsLegal}
 use Rattle.hart_runner.specs.Standing.{image_in, pace_of, IsInPace, first_of}
 use Rattle.hart_runner.proofs.Behind.{AreBehind, Off, journal_paces}
 use Rattle.hart_runner.proofs.Numbers.{Rises, same_test, test_same}
 use Rattle.hart_runner.proofs.Tests.{none_of}
 use Rattle.hart_runner.proofs.Written.{pace_guest}
-use Rattle.pace_law.specs.Step.{InStep}
 
 pub record Linked (s : Shuffled) (b : Pace) : Type 0 where
   pub goes : goes_still b.guest.end ≡ true → s.end ≡ None

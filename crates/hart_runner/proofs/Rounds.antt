@@ -1,5 +1,5 @@
 -- How what is still to come of the serial order shrinks, by a round.
-use Rattle.std.proofs.Common.{◌≡◌, ℕ, zero, suc, ◌+◌, ◌-◌, ◌*◌, ◌%◌, ◌≤◌, ◌<◌, Bool, true, false, List, [], ◌∷◌, ◌++◌, refl, sym, ap, ◌∙◌, subst, arith, append_assoc}
+use Rattle.std.proofs.Common.{◌≡◌, ℕ, zero, suc, ◌+◌, ◌-◌, ◌*◌, ◌≤◌, ◌<◌, Bool, true, false, List, [], ◌++◌, refl, sym, ap, ◌∙◌, subst, arith, append_assoc}
 use Rattle.std.specs.Prelude.{if◌then◌else◌, ◌||◌, ◌==◌, not}
 use Rattle.std.proofs.lemmas.Bool.Decides.{nat_tests}
 use Rattle.sh_types.specs.declared.code.Image.{Image}
@@ -7,7 +7,7 @@ use Rattle.sh_types.specs.declared.runs.Event.{Event}
 use Rattle.sh_types.specs.declared.runs.Event.TheVariants.{Run}
 use Rattle.sh_types.specs.Pace.{Pace, paced_on, followed}
 use Rattle.sh_types.specs.Serial.{Schedule, run_length, turn, turn_in, ready, next_hart, turn_limit, is_done, serial_in, serial_from}
-use Rattle.sh_types.specs.Unmoved.{Unmoved, goes_still, can_go}
+use Rattle.sh_types.specs.Unmoved.{goes_still, can_go}
 use Rattle.pace_law.specs.Step.{InStep}
 use Rattle.pace_law.proofs.Length.{length_few, length_some}
 use Rattle.pace_law.proofs.Serials.{turn_goes, ready_goes, after_turn, turn_short, turn_few, turn_is, Readied, Turned}

@@ -1,10 +1,9 @@
 -- The serial order from where a machine stands: what is still to come, and that the journal keeps pace.
-use Rattle.std.proofs.Common.{◌≡◌, ℕ, ◌+◌, ◌-◌, ◌*◌, ◌^◌, ◌≤◌, ◌<◌, true, false, List, ◌++◌, refl, sym, ap, ◌∙◌, subst, arith, append-nil, mul-le-mul_right}
-use Rattle.sh_types.specs.declared.code.Image.{Image}
+use Rattle.std.proofs.Common.{◌≡◌, ℕ, ◌+◌, ◌-◌, ◌*◌, ◌^◌, ◌≤◌, ◌<◌, true, false, List, sym, ap, ◌∙◌, subst, arith, mul-le-mul_right}
 use Rattle.sh_types.specs.declared.runs.Event.{Event}
 use Rattle.sh_types.specs.Fine.{IsSetting}
-use Rattle.sh_types.specs.Pace.{Pace, followed, all_keep, IsPaced}
-use Rattle.sh_types.specs.Serial.{Schedule, turn, turn_in, ready, next_hart, turn_limit, is_done, serial_from}
+use Rattle.sh_types.specs.Pace.{all_keep, IsPaced}
+use Rattle.sh_types.specs.Serial.{Schedule, turn, ready, next_hart, turn_limit, is_done, serial_from}
 use Rattle.sh_types.specs.Unmoved.{Unmoved, goes_still, can_go}
 use Rattle.sh_law.specs.Paced.{StandsPaced}
 use Rattle.sh_law.proofs.Ciphers.{is_cipher}
@@ -14,10 +13,10 @@ use Rattle.pace_law.proofs.Periods.{serial_paced}
 use Rattle.pace_law.proofs.Serials.{turn_goes, ready_goes, turn_short, turn_few, turn_is, Readied}
 use Rattle.shuf_machine.specs.Past.{Past, state_of}
 use Rattle.shuf_machine.specs.Run.{setting_of, IsLegal}
-use Rattle.hart_runner.specs.Standing.{image_in, pace_of, with_events, Still, IsPart}
+use Rattle.hart_runner.specs.Standing.{image_in, pace_of, with_events, IsPart}
 use Rattle.hart_runner.proofs.Behind.{journal_paces}
 use Rattle.hart_runner.proofs.Boundaries.{paced_then}
-use Rattle.hart_runner.proofs.Rounds.{Serving, Served, serving_first, serving_on, going}
+use Rattle.hart_runner.proofs.Rounds.{Serving, serving_first, serving_on, going}
 use Rattle.hart_runner.proofs.Stills.{pace_then}
 
 abbrev pub KeepsPace : ℕ → Past → Type 0

@@ -1,7 +1,7 @@
 //! The serial order.
-ghost use Rattle.std.specs.Prelude.{◌≡◌, ◌+◌, ◌-◌, ◌<◌, ◌≤◌, ◌^◌, true, false, OnOk, OnErr};
+ghost use Rattle.std.specs.Prelude.{◌≡◌, ◌+◌, ◌-◌, ◌<◌, ◌≤◌, ◌^◌, [], true, false, OnOk, OnErr};
 ghost use Rattle.sh_types.specs.Pace.{IsPaced, live_from};
-ghost use Rattle.sh_types.specs.Serial.{migrations, cleared_away, publication as publication_by, ready, turn, is_due as is_due_by, is_done as is_done_by, serial_from};
+ghost use Rattle.sh_types.specs.Serial.{migrations, cleared_away, publication as publication_by, ready, turn, is_due as is_due_by, is_done as is_done_by, serial_from, serial_list};
 ghost use Rattle.sh_types.specs.Unmoved.{goes_still};
 ghost use Rattle.pace_law.specs.Step.{InStep};
 ghost use Rattle.shuf_machine.specs.Past.{state_of};
@@ -117,8 +117,8 @@ fn is_done(machine: &Machine, plan: &Plan) -> bool
 
 /// Runs a machine in the serial order from where it stands, also one that was left between a publication and its
 /// migrations, until the run ends or has `plan.steps` instructions. What the journal grows by is a function of the
-/// image, the input, the plan and where the journal stands. Err only where memory is refused; the journal then grew by
-/// the first of these events.
+/// image, the input, the plan and where the journal stands; that of a new machine is the whole list of the serial
+/// order. Err only where memory is refused; the journal then grew by the first of these events.
 pub fn run_serial<L: Ledger>(
     alloc: Global,
     machine: &mut Machine,
@@ -131,6 +131,7 @@ pub fn run_serial<L: Ledger>(
     requires paced { IsPaced (image_in machine.old) machine.old.origin.input plan.now.period machine.old.journal }
     requires few { (state_of machine.old).count ≤ plan.now.steps }
     ensures ok { OnOk result (machine.new ≡ with_events machine.old (serial_from (image_in machine.old) (schedule_of plan.now) (pace_of machine.old))) }
+    ensures serial { OnOk result (machine.old.journal ≡ [] → machine.new.journal ≡ serial_list (image_in machine.old) machine.old.origin.input (schedule_of plan.now)) }
     ensures done { OnOk result (is_done_by (schedule_of plan.now) (pace_of machine.new) ≡ true) }
     ensures err { OnErr result (IsPart (serial_from (image_in machine.old) (schedule_of plan.now) (pace_of machine.old)) machine.old machine.new) }
     ensures paced { IsPaced (image_in machine.new) machine.new.origin.input plan.now.period machine.new.journal }

@@ -1,4 +1,3 @@
-use Rattle.std.proofs.Common.{ℕ}
 use Rattle.sh_types.specs.Serial.{turn}
 use Rattle.hart_runner.specs.Standing.{image_in, pace_of}
 use Rattle.hart_runner.proofs.First.{Taking}

@@ -1,5 +1,5 @@
-use Rattle.std.proofs.Common.{◌≡◌, true, [], ap, ◌∙◌, arith}
-use Rattle.sh_types.specs.Serial.{cleared_away, is_due}
+use Rattle.std.proofs.Common.{[], ap, ◌∙◌, arith}
+use Rattle.sh_types.specs.Serial.{cleared_away}
 use Rattle.sh_types.specs.Unmoved.{Unmoved, goes_still}
 use Rattle.hart_runner.specs.Standing.{pace_of}
 use Rattle.hart_runner.proofs.Boundaries.{cleared, publication_of, readying, half_ready}

@@ -1,7 +1,9 @@
-use Rattle.std.proofs.Common.{◌≡◌, true, false, ap, ◌∙◌, arith}
+use Rattle.std.proofs.Common.{◌≡◌, ◌++◌, false, ap, ◌∙◌, arith}
 use Rattle.sh_types.specs.Serial.{is_done, turn_limit}
+use Rattle.shuf_machine.specs.Past.{Past}
 use Rattle.hart_runner.specs.Plans.{schedule_of}
 use Rattle.hart_runner.specs.Standing.{pace_of}
+use Rattle.hart_runner.proofs.First.{from_opening}
 use Rattle.hart_runner.proofs.Rounds.{serving_broken, serving_cut, served}
 use Rattle.hart_runner.proofs.Running.{all_of, begins, running_first, made_ready, running_on, cut_paced}
 use Rattle.hart_runner.proofs.Stills.{on_err}
@@ -92,3 +94,10 @@ returns-clause-ok g c =
     let s = schedule_of c.args.plan.now in
     let p = c.args.machine.now in
     served p c.loop-alloc.machine s (all_of s p) c.loop-alloc.low c.loop-alloc.invariant.serving (cc (c.is_done.ensures, c.loop-alloc-test.false))
+
+pub returns-clause-serial : goal.returns-clause-serial
+returns-clause-serial g c = λ e.
+    let s = schedule_of c.args.plan.now in
+    let p = c.args.machine.now in
+    let all = served p c.loop-alloc.machine s (all_of s p) c.loop-alloc.low c.loop-alloc.invariant.serving (cc (c.is_done.ensures, c.loop-alloc-test.false)) in
+    ap (λ (x : Past). x.journal) all ∙ ap (λ j. j ++ all_of s p) e ∙ from_opening s p e

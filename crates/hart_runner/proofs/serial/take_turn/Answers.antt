@@ -1,4 +1,4 @@
-use Rattle.std.proofs.Common.{◌≡◌, ◌≤◌, ap, arith}
+use Rattle.std.proofs.Common.{ap, arith}
 use Rattle.sh_types.specs.Pace.{Pace}
 use Rattle.sh_types.specs.declared.runs.Event.TheVariants.{Run}
 use Rattle.pace_law.proofs.Length.{length_few}
