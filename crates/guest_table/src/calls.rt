@@ -31,14 +31,8 @@ fn read_thin<R: Threads + Sync>(
     }
 }
 
-/// Runs at most 100 instructions of a hart of a new machine, and answers how many.
-fn run_image(
-    alloc: Global,
-    image: Image,
-    file: Bytes,
-    hart: u32,
-    log: &mut FetchLog,
-) -> Result<u64, MachineNo>
+/// A new machine of the file.
+fn machine_of(alloc: Global, image: Image, file: Bytes) -> Result<Machine, NoMemory>
     requires thin { thin_image file ≡ Some image }
     requires runnable { IsRunnable image }
 {
@@ -48,16 +42,18 @@ fn run_image(
         seed: [0; 32],
     };
     thin_images_are_fine();
-    let Ok(mut machine) = Machine::new(alloc, image, origin) else {
-        return Err(MachineNo::NoMemory);
-    };
+    Machine::new(alloc, image, origin)
+}
+
+/// Runs at most 100 instructions of a hart of a new machine, and answers how many.
+fn run_new(machine: &mut Machine, hart: u32, log: &mut FetchLog) -> Result<u64, MachineNo> {
     if machine.count() > 0 {
         return Ok(0);
     }
     machine.run_direct(hart, 100, log)
 }
 
-/// The same of the first guest; 0 where its file is not thin.
+/// The same of the first guest's machine; 0 where its file is not thin.
 pub fn run_first<R: Threads + Sync>(
     rt: &R,
     alloc: Global,
@@ -69,7 +65,10 @@ pub fn run_first<R: Threads + Sync>(
     };
     let file = Bytes::from_vec(bytes);
     match read_thin(rt, alloc, file.as_slice()) {
-        Ok(Some(image)) => run_image(alloc, image, file, hart, log),
+        Ok(Some(image)) => match machine_of(alloc, image, file) {
+            Ok(mut machine) => run_new(&mut machine, hart, log),
+            Err(NoMemory) => Err(MachineNo::NoMemory),
+        },
         Ok(None) => Ok(0),
         Err(NoMemory) => Err(MachineNo::NoMemory),
     }
