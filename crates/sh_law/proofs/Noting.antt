@@ -1,9 +1,10 @@
 -- Instructions that are run ahead come out the same wherever the hart and the words that they touch are the same.
 use Rattle.std.proofs.Common.{◌≡◌, ℕ, zero, suc, ◌+◌, ◌<◌, ◌≤◌, Bool, true, false, Option, Some, None, List, [], ◌∷◌, refl, sym, ap, ◌∙◌, subst, arith}
-use Rattle.std.specs.Prelude.{map, ◌==◌, if◌then◌else◌}
+use Rattle.std.specs.Prelude.{map, ◌==◌, ◌||◌, if◌then◌else◌}
+use Rattle.std.proofs.lemmas.Bool.Decides.{nat_tests}
 use Rattle.sh_types.specs.declared.runs.Hart.{Hart}
 use Rattle.sh_types.specs.Need.{Outcome, Goes, Puts, Calls, Quits, Traps, Leaks, Need, answered, touched}
-use Rattle.sh_types.specs.Notes.{with_words, Touched, noted, Ahead, over, touch, touch_if, more_stores, next_needs, is_stop, goes_ahead, ahead_from, set_off, ahead_of, notes_in, effects_in, notes_of, effects_of, Hold}
+use Rattle.sh_types.specs.Notes.{Note, with_words, Touched, noted, Ahead, over, touch, touch_if, more_stores, next_needs, is_stop, goes_ahead, ahead_from, set_off, ahead_of, notes_in, effects_in, notes_of, effects_of, Hold, is_noted, AreOnce}
 use Rattle.sh_types.specs.Shuffled.{Setting, Owned, moved_of}
 
 -- ---- a word that is touched
@@ -59,6 +60,64 @@ pub notes_keep : (o : Setting) (m m' : ℕ → Owned) (k : ℕ) (a : Ahead) → 
 notes_keep o m m' zero a n = n
 notes_keep o m m' (suc k) a n =
     step_keeps m m' (answered (next_needs o a.hart) (over a.touched m)) a (touch_if m (touched (next_needs o a.hart)) a.touched) (λ b. ahead_from o m k b) (if_keeps m m' (touched (next_needs o a.hart)) a.touched) (notes_keep o m m' k) n
+
+-- ---- each word is noted once, as it stands before the turn
+
+touch_holds : (m : ℕ → Owned) (w : ℕ) (c : Owned) (xs : List Touched) → Hold m (map noted xs) → Hold m (map noted (touch m w c xs))
+touch_holds m w c [] h = (refl, tt)
+touch_holds m w c (x ∷ xs) h = by (x.word == w) (touch_holds m w c xs h.1)
+  where
+    by : (b : Bool) → Hold m (map noted (touch m w c xs)) → Hold m (map noted (if b then record { word = x.word; before = x.before; now = c } ∷ xs else x ∷ touch m w c xs))
+    by true ih = h
+    by false ih = (h.0, ih)
+
+touch_others : (m : ℕ → Owned) (w : ℕ) (c : Owned) (xs : List Touched) (v : ℕ) → (w == v) ≡ false → is_noted v (map noted (touch m w c xs)) ≡ is_noted v (map noted xs)
+touch_others m w c [] v e = ap (λ b. b || false) e
+touch_others m w c (x ∷ xs) v e = by (x.word == w) (touch_others m w c xs v e)
+  where
+    by : (b : Bool) → is_noted v (map noted (touch m w c xs)) ≡ is_noted v (map noted xs) → is_noted v (map noted (if b then record { word = x.word; before = x.before; now = c } ∷ xs else x ∷ touch m w c xs)) ≡ ((x.word == v) || is_noted v (map noted xs))
+    by true ih = refl
+    by false ih = ap (λ b. (x.word == v) || b) ih
+
+touch_once : (m : ℕ → Owned) (w : ℕ) (c : Owned) (xs : List Touched) → AreOnce (map noted xs) → AreOnce (map noted (touch m w c xs))
+touch_once m w c [] h = (refl, tt)
+touch_once m w c (x ∷ xs) h = by (x.word == w) refl (touch_once m w c xs h.1)
+  where
+    by : (b : Bool) → (x.word == w) ≡ b → AreOnce (map noted (touch m w c xs)) → AreOnce (map noted (if b then record { word = x.word; before = x.before; now = c } ∷ xs else x ∷ touch m w c xs))
+    by true e ih = h
+    by false e ih = (touch_others m w c xs x.word (turned x.word w e) ∙ h.0, ih)
+      where
+        turned : (v w : ℕ) → (v == w) ≡ false → (w == v) ≡ false
+        turned v w e = grind (arith, nat_tests)
+
+-- the notes are so
+pub record AreNotes (m : ℕ → Owned) (xs : List Note) : Type 0 where
+  pub here : Hold m xs
+  pub once : AreOnce xs
+
+touch_notes : (m : ℕ → Owned) (w : ℕ) (c : Owned) (xs : List Touched) → AreNotes m (map noted xs) → AreNotes m (map noted (touch m w c xs))
+touch_notes m w c xs n = record { here = touch_holds m w c xs n.here; once = touch_once m w c xs n.once }
+
+if_notes : (m : ℕ → Owned) (t : Option ℕ) (xs : List Touched) → AreNotes m (map noted xs) → AreNotes m (map noted (touch_if m t xs))
+if_notes m None xs n = n
+if_notes m (Some w) xs n = touch_notes m w (over xs m w) xs n
+
+step_notes : (m : ℕ → Owned) (out : Outcome Hart Owned) (a : Ahead) (xs : List Touched) (on : Ahead → Ahead) → AreNotes m (notes_in a) → AreNotes m (map noted xs) → ((b : Ahead) → AreNotes m (notes_in b) → AreNotes m (notes_in (on b))) → AreNotes m (notes_in (goes_ahead m out a xs on))
+step_notes m (Goes h) a xs on n p f = f _ p
+step_notes m (Puts h w c stored) a xs on n p f = f _ (touch_notes m w c xs p)
+step_notes m Calls a xs on n p f = n
+step_notes m Quits a xs on n p f = n
+step_notes m (Traps kind value) a xs on n p f = n
+step_notes m Leaks a xs on n p f = n
+
+from_notes : (o : Setting) (m : ℕ → Owned) (k : ℕ) (a : Ahead) → AreNotes m (notes_in a) → AreNotes m (notes_in (ahead_from o m k a))
+from_notes o m zero a n = n
+from_notes o m (suc k) a n =
+    step_notes m (answered (next_needs o a.hart) (over a.touched m)) a (touch_if m (touched (next_needs o a.hart)) a.touched) (λ b. ahead_from o m k b) n (if_notes m (touched (next_needs o a.hart)) a.touched n) (from_notes o m k)
+
+pub turn_notes : (o : Setting) (k : ℕ) (h : Hart) (m : ℕ → Owned) → AreNotes m (notes_of o k h m)
+unfolding notes_of ahead_of
+turn_notes o k h m = from_notes o m k (set_off h) (record { here = tt; once = tt })
 
 -- ---- how far a turn comes
 

@@ -4,7 +4,7 @@ ghost use Rattle.sh_types.specs.declared.runs.Hart.{Hart};
 ghost use Rattle.sh_types.specs.declared.runs.Event.{Event};
 ghost use Rattle.sh_types.specs.Event.{IsLegalIn, can_run, state_after};
 ghost use Rattle.sh_types.specs.Fine.{IsSetting};
-ghost use Rattle.sh_types.specs.Notes.{Hold, effects_of, is_stop, notes_of, with_words};
+ghost use Rattle.sh_types.specs.Notes.{AreOnce, Hold, effects_of, is_stop, notes_of, with_words};
 ghost use Rattle.sh_types.specs.Need.{stored_at};
 ghost use Rattle.sh_types.specs.Shuffled.{Setting, Owned, moved_of, shuffled_start};
 ghost use Rattle.sh_law.specs.AheadExample.{note, tries_setting, turn_in};
@@ -21,6 +21,12 @@ pub fn turns_see_what_they_note()
 {
     instructions_see_one_word();
 }
+
+/// A note has the value and the owner that the word has before the turn, and no word is noted twice.
+pub fn notes_are_taken_once()
+    ensures here { (o : Setting) (k : ℕ) (h : Hart) (m : ℕ → Owned) → Hold m (notes_of o k h m) }
+    ensures once { (o : Setting) (k : ℕ) (h : Hart) (m : ℕ → Owned) → AreOnce (notes_of o k h m) }
+{}
 
 /// A turn has at most as many instructions as were asked, and is the turn of just so many. It has fewer only where a call,
 /// the hart's end, a trap or a leak comes next.

@@ -1,6 +1,6 @@
 -- Instructions of a hart that are run ahead: the words that they touch, as they were before the first of them, and what
 -- they leave. Only these words and the hart go into it. This project's own.
-use Rattle.std.specs.Prelude.{◌≡◌, ℕ, zero, suc, ◌+◌, ◌==◌, Bool, true, false, Option, Some, None, List, [], ◌∷◌, ◌++◌, map, slice_set, if◌then◌else◌}
+use Rattle.std.specs.Prelude.{◌≡◌, ℕ, zero, suc, ◌+◌, ◌==◌, ◌||◌, Bool, true, false, Option, Some, None, List, [], ◌∷◌, ◌++◌, map, slice_set, if◌then◌else◌}
 use Rattle.sh_types.specs.declared.runs.Hart.{Hart}
 use Rattle.sh_types.specs.declared.runs.Stored.{Stored}
 use Rattle.sh_types.specs.Copy.{copied}
@@ -125,6 +125,16 @@ effects_of o k h m = effects_in (ahead_of o k h m)
 abbrev pub Hold : (ℕ → Owned) → List Note → Type 0
 Hold m [] = Unit {0}
 Hold m (x ∷ xs) = (m x.word ≡ x.content) × Hold m xs
+
+-- the word is among the notes
+abbrev pub is_noted : ℕ → List Note → Bool
+is_noted w [] = false
+is_noted w (x ∷ xs) = (x.word == w) || is_noted w xs
+
+-- no word is noted twice
+abbrev pub AreOnce : List Note → Type 0
+AreOnce [] = Unit {0}
+AreOnce (x ∷ xs) = (is_noted x.word xs ≡ false) × AreOnce xs
 
 -- ---- what effects leave of a state
 
