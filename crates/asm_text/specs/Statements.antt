@@ -1,7 +1,7 @@
 -- What text is which statement.
 use Rattle.std.specs.Prelude.{ℕ, ℤ, pos, ◌==◌, Bool, Option, Some, None, List, [], ◌∷◌, length, option_map, if◌then◌else◌}
-use Rattle.sh_types.specs.declared.instructions.Op.{Op}
-use Rattle.sh_types.specs.declared.instructions.Op.TheVariants.{Addi, Jalr}
+use Rattle.rv_table.specs.declared.instructions.Op.{Op}
+use Rattle.rv_table.specs.declared.instructions.Op.TheVariants.{Addi, Jalr}
 use Rattle.asm_text.specs.declared.shapes.Plain.{Plain}
 use Rattle.asm_text.specs.declared.shapes.Plain.TheVariants as plain
 use Rattle.asm_text.specs.declared.shapes.Naming.{Naming}

@@ -6,7 +6,7 @@ use crate::numbers::number;
 use crate::operands::{based, indexed, is_nothing, register, register_and_number, register_first};
 use crate::shapes::Plain;
 use crate::statements::Statement;
-use sh_types::Op;
+use rv_table::Op;
 
 fn instruction(op: Op, rd: u8, rs1: u8, rs2: u8, imm: i128) -> Statement
     ensures { result ≡ instruction_of op rd rs1 rs2 imm }

@@ -4,7 +4,7 @@ ghost use Rattle.asm_text.specs.Tables.{named};
 ghost use Rattle.asm_text.specs.Mnemonics.{register_rows, immediate_rows, memory_rows, store_rows, branch_rows, upper_rows, atomic_rows, reserve_rows, bare_rows, plain_rows, naming_rows, value_rows, instruction_shape, shape_of};
 
 use crate::shapes::{Naming, Plain, Shape};
-use sh_types::Op;
+use rv_table::Op;
 
 /// The instruction of three registers that has this name.
 #[tactic(auto, unfolding(crate::specs::Mnemonics::register_rows))]

@@ -6,7 +6,7 @@ ghost use Rattle.asm_text.specs.Statements.{branch_form as branch_form_of, branc
 use crate::operands::{name, register_and_name, register_first};
 use crate::shapes::Naming;
 use crate::statements::{Statement, Unread};
-use sh_types::Op;
+use rv_table::Op;
 use std::alloc::Global;
 
 #[tactic(auto, unfolding(crate::specs::Statements::branch_form))]

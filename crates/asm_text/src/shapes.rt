@@ -1,5 +1,5 @@
 //! What mnemonics and directives take.
-use sh_types::Op;
+use rv_table::Op;
 
 /// What takes registers and numbers alone.
 #[derive(Clone, Copy, Debug, PartialEq, Eq)]

@@ -2,7 +2,8 @@
 ghost use Rattle.std.specs.Prelude.{◌≡◌};
 ghost use Rattle.asm_text.specs.declared.statements.Unread.TheVariants as unread;
 
-use sh_types::{Bytes, Op, SymbolName};
+use rv_table::Op;
+use sh_types::{Bytes, SymbolName};
 use std::alloc::{AllocError, AllocFailed};
 
 /// A statement, or a part of one that stands for itself: a label, and each value of `.byte`, `.word` and `.quad`. A

@@ -5,9 +5,9 @@ use Rattle.std.specs.List.{list_any}
 use Rattle.std.proofs.lemmas.Bool.Decides.{nat_tests}
 use Rattle.std.proofs.lemmas.Grind.{common_steps}
 use Rattle.std.proofs.Math.Path.{fun_ext}
-use Rattle.sh_types.specs.declared.elf.RawSymbol.{RawSymbol}
-use Rattle.sh_types.specs.declared.elf.Head.{Head}
-use Rattle.sh_types.specs.Elf.{ends}
+use Rattle.elf_rules.specs.declared.elf.RawSymbol.{RawSymbol}
+use Rattle.elf_rules.specs.declared.elf.Head.{Head}
+use Rattle.elf_rules.specs.Elf.{ends}
 use Rattle.elf_symbols.specs.Zeros.{zero_end}
 
 any_zero : (names : List ℕ) → list_any (λ c. c == 0) names ≡ nat_lt 0 (zero_end names)

@@ -3,10 +3,10 @@ use Rattle.std.proofs.Common.{◌≡◌, ℕ, ◌+◌, ◌≤◌, false, List, l
 use Rattle.std.specs.Prelude.{unwrap_or}
 use Rattle.std.proofs.lemmas.Bool.{true≢false}
 use Rattle.std.proofs.lemmas.Bool.Decides.{nat_tests}
-use Rattle.sh_types.specs.declared.elf.Head.{Head}
-use Rattle.sh_types.specs.declared.refusals.ElfRule.TheVariants as rules
-use Rattle.sh_types.specs.Elf.{heads_of, sole_table, table_of, no_head}
-use Rattle.sh_types.specs.ElfRules.{fails, bad_table}
+use Rattle.elf_rules.specs.declared.elf.Head.{Head}
+use Rattle.elf_rules.specs.declared.refusals.ElfRule.TheVariants as rules
+use Rattle.elf_rules.specs.Elf.{heads_of, sole_table, table_of, no_head}
+use Rattle.elf_rules.specs.ElfRules.{fails, bad_table}
 
 by_cases : (b : List ℕ) (heads : List Head) (table : Option Head) → bad_table b heads table ≡ false → (unwrap_or table no_head).file_at + (unwrap_or table no_head).size ≤ length b
 unfolding bad_table

@@ -1,7 +1,7 @@
 -- The section headers are as many as the header says.
 use Rattle.std.proofs.Common.{◌≡◌, ℕ, zero, suc, ◌+◌, List, length, refl, ◌∙◌, arith}
 use Rattle.std.proofs.lemmas.List.{length-map}
-use Rattle.sh_types.specs.Elf.{places, heads_of, section_at, section_count, head_at}
+use Rattle.elf_rules.specs.Elf.{places, heads_of, section_at, section_count, head_at}
 
 length-places : (step place n : ℕ) → length (places step place n) ≡ n
 length-places step place zero = refl

@@ -6,7 +6,7 @@ use Rattle.std.proofs.lemmas.Bool.Decides.{nat_tests}
 use Rattle.std.proofs.lemmas.Grind.{common_steps}
 use Rattle.std.proofs.lemmas.List.{drop_min}
 use Rattle.std.proofs.lemmas.List.Sums.{take_while-cons}
-use Rattle.sh_types.specs.Elf.{name_at}
+use Rattle.elf_rules.specs.Elf.{name_at}
 use Rattle.elf_symbols.specs.Zeros.{zeros_from, first_from}
 
 -- ---- the places of zero bytes rise

@@ -1,9 +1,10 @@
 //! Symbols with their names.
 ghost use Rattle.std.specs.Prelude.{◌≡◌, map, IfOk};
-ghost use Rattle.sh_types.specs.Elf as elf;
+ghost use Rattle.elf_rules.specs.Elf as elf;
 
 use crate::strings::Names;
-use sh_types::{RawSymbol, Symbol};
+use elf_rules::RawSymbol;
+use sh_types::Symbol;
 use std::alloc::{AllocError, Global};
 
 fn symbol(names: &Names, raw: &RawSymbol) -> Result<Symbol, AllocError>

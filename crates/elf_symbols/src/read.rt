@@ -1,13 +1,14 @@
 //! Reads the symbols of a file.
 ghost use Rattle.std.specs.Prelude.{◌≡◌, IfOk, false, Err};
-ghost use Rattle.sh_types.specs.Elf.{sole_table, table_of, raws_of, symbol_names, section_names, symbols_of};
-ghost use Rattle.sh_types.specs.ElfRules.{Reads, IsReadFrom, fails, first_failing, symbol_rules};
+ghost use Rattle.elf_rules.specs.Elf.{sole_table, table_of, raws_of, symbol_names, section_names, symbols_of};
+ghost use Rattle.elf_rules.specs.ElfRules.{Reads, IsReadFrom, fails, first_failing, symbol_rules};
 
 use crate::names::named;
 use crate::rules::{any_bad_section, bad_names, bad_start, bad_table};
 use crate::strings::part_of;
 use crate::table::{entries, head_or_none, no_head, only, symbol_tables};
-use sh_types::{Elf, ElfFault, ElfRule, Head, Items, RawSymbol, Symbol};
+use elf_rules::{Elf, ElfFault, ElfRule, Head, RawSymbol};
+use sh_types::{Items, Symbol};
 use std::alloc::{AllocError, Global};
 
 /// The header of the file's symbol table, where there is just one.
@@ -19,7 +20,7 @@ fn sole(alloc: Global, elf: &Elf, bytes: &[u8]) -> Result<Option<Head>, AllocErr
     Ok(only(&tables))
 }
 
-#[tactic(auto, unfolding(sh_types::specs::ElfRules::fails))]
+#[tactic(auto, unfolding(elf_rules::specs::ElfRules::fails))]
 fn fails_symbols(elf: &Elf, bytes: &[u8], table: Option<Head>) -> bool
     requires read { IsReadFrom elf.now bytes.now }
     requires table { table ≡ sole_table bytes.now }
@@ -28,7 +29,7 @@ fn fails_symbols(elf: &Elf, bytes: &[u8], table: Option<Head>) -> bool
     bad_table(bytes, elf.heads.as_slice(), table)
 }
 
-#[tactic(auto, unfolding(sh_types::specs::ElfRules::fails))]
+#[tactic(auto, unfolding(elf_rules::specs::ElfRules::fails))]
 fn fails_start(elf: &Elf, bytes: &[u8]) -> bool
     requires { IsReadFrom elf.now bytes.now }
     ensures { result ≡ fails ElfRule.Start bytes.now }
@@ -36,7 +37,7 @@ fn fails_start(elf: &Elf, bytes: &[u8]) -> bool
     bad_start(elf.entry, elf.sections.as_slice())
 }
 
-#[tactic(auto, unfolding(sh_types::specs::Elf::table_of))]
+#[tactic(auto, unfolding(elf_rules::specs::Elf::table_of))]
 fn table_or_none(bytes: &[u8], table: Option<Head>) -> Head
     requires { table ≡ sole_table bytes.now }
     ensures { result ≡ table_of bytes.now }
@@ -48,7 +49,7 @@ fn table_or_none(bytes: &[u8], table: Option<Head>) -> Head
 }
 
 /// The symbols as they stand in the table.
-#[tactic(auto, using(crate::proofs::Inside::inside), unfolding(sh_types::specs::Elf::raws_of))]
+#[tactic(auto, using(crate::proofs::Inside::inside), unfolding(elf_rules::specs::Elf::raws_of))]
 fn raw_symbols(alloc: Global, bytes: &[u8], table: &Head) -> Result<Vec<RawSymbol>, AllocError>
     requires table { table.now ≡ table_of bytes.now }
     requires fine { fails ElfRule.Symbols bytes.now ≡ false }
@@ -76,7 +77,7 @@ fn section_strings<'a>(elf: &Elf, bytes: &'a [u8]) -> &'a [u8]
     part_of(bytes, &head)
 }
 
-#[tactic(auto, unfolding(sh_types::specs::ElfRules::fails))]
+#[tactic(auto, unfolding(elf_rules::specs::ElfRules::fails))]
 fn fails_names(elf: &Elf, bytes: &[u8], names: &[u8], raws: &[RawSymbol]) -> bool
     requires read { IsReadFrom elf.now bytes.now }
     requires names { names.now ≡ symbol_names bytes.now }
@@ -87,7 +88,7 @@ fn fails_names(elf: &Elf, bytes: &[u8], names: &[u8], raws: &[RawSymbol]) -> boo
     bad_names(names, section_names, raws, elf.heads.as_slice())
 }
 
-#[tactic(auto, using(crate::proofs::Lengths::length_heads_of), unfolding(sh_types::specs::ElfRules::fails))]
+#[tactic(auto, using(crate::proofs::Lengths::length_heads_of), unfolding(elf_rules::specs::ElfRules::fails))]
 fn fails_sections(elf: &Elf, bytes: &[u8], raws: &[RawSymbol]) -> bool
     requires read { IsReadFrom elf.now bytes.now }
     requires raws { raws.now ≡ raws_of bytes.now }
@@ -96,7 +97,7 @@ fn fails_sections(elf: &Elf, bytes: &[u8], raws: &[RawSymbol]) -> bool
     any_bad_section(elf.heads.len(), raws)
 }
 
-#[tactic(auto, unfolding(sh_types::specs::Elf::symbols_of))]
+#[tactic(auto, unfolding(elf_rules::specs::Elf::symbols_of))]
 fn with_names(
     alloc: Global,
     bytes: &[u8],

@@ -1,15 +1,16 @@
 //! The rules on symbols and names, each over the parts of a file that it speaks of.
 ghost use Rattle.std.specs.Prelude.{◌≡◌, not, nat_le};
 ghost use Rattle.std.specs.List.{list_any};
-ghost use Rattle.sh_types.specs.declared.elf.Head.{Head};
-ghost use Rattle.sh_types.specs.declared.elf.RawSymbol.{RawSymbol};
-ghost use Rattle.sh_types.specs.Elf.{ends};
-ghost use Rattle.sh_types.specs.ElfRules as rule;
+ghost use Rattle.elf_rules.specs.declared.elf.Head.{Head};
+ghost use Rattle.elf_rules.specs.declared.elf.RawSymbol.{RawSymbol};
+ghost use Rattle.elf_rules.specs.Elf.{ends};
+ghost use Rattle.elf_rules.specs.ElfRules as rule;
 
 use crate::strings::last_end;
 use crate::table::{ENTRY_SIZE, head_or_none};
 use elf_read::lies_in;
-use sh_types::{Head, RawSymbol, Section};
+use elf_rules::{Head, RawSymbol, runs_at};
+use sh_types::Section;
 
 const SHT_STRTAB: u32 = 3;
 
@@ -17,7 +18,7 @@ const SHT_STRTAB: u32 = 3;
 const SHN_LORESERVE: u16 = 0xff00;
 
 /// Whether there is no table of symbols that can be read, with a string table.
-#[tactic(auto, unfolding(sh_types::specs::ElfRules::bad_table))]
+#[tactic(auto, unfolding(elf_rules::specs::ElfRules::bad_table))]
 pub fn bad_table(bytes: &[u8], heads: &[Head], table: Option<Head>) -> bool
     ensures { result ≡ rule.bad_table bytes.now heads.now table }
 {
@@ -32,15 +33,6 @@ pub fn bad_table(bytes: &[u8], heads: &[Head], table: Option<Head>) -> bool
                 || !lies_in(bytes, strings.file_at, strings.size)
         }
     }
-}
-
-#[tactic(auto, unfolding(sh_types::specs::ElfRules::runs_at))]
-fn runs_at(address: u64, section: &Section) -> bool
-    ensures { result ≡ rule.runs_at address section.now }
-{
-    section.executable
-        && section.start <= address
-        && u128::from(address) < u128::from(section.start) + u128::from(section.size)
 }
 
 fn any_runs_at(address: u64, sections: &[Section]) -> bool
@@ -92,7 +84,7 @@ pub fn bad_names(
     any_open_symbol(symbol_names, symbols) || any_open_head(section_names, heads)
 }
 
-#[tactic(auto, unfolding(sh_types::specs::ElfRules::bad_section))]
+#[tactic(auto, unfolding(elf_rules::specs::ElfRules::bad_section))]
 fn bad_section(count: usize, symbol: &RawSymbol) -> bool
     ensures { result ≡ rule.bad_section count symbol.now }
 {

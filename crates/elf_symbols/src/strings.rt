@@ -1,16 +1,17 @@
 //! String tables: where their last name ends, and their names.
 ghost use Rattle.std.specs.Prelude.{◌≡◌, ℕ, ◌+◌, ◌<◌, ◌≤◌, ◌^◌, ◌==◌, length, slice_index_or, IfOk, if◌then◌else◌};
 ghost use Rattle.std.specs.List.Sorted.{IsNonDecreasingBy};
-ghost use Rattle.sh_types.specs.Elf as elf;
+ghost use Rattle.elf_rules.specs.Elf as elf;
 ghost use Rattle.elf_symbols.specs.Zeros.{zero_end, zeros_from, first_from};
 
 use elf_read::lies_in;
-use sh_types::{Head, StringTable, SymbolName};
+use elf_rules::Head;
+use sh_types::{StringTable, SymbolName};
 use std::alloc::{AllocError, Global};
 use std::marker::Model;
 
 /// The bytes of a section, none where they are not inside the file.
-#[tactic(auto, unfolding(sh_types::specs::Elf::part_of))]
+#[tactic(auto, unfolding(elf_rules::specs::Elf::part_of))]
 pub fn part_of<'a>(bytes: &'a [u8], head: &Head) -> &'a [u8]
     ensures { result.now ≡ elf.part_of bytes.now head.now }
 {

@@ -1,9 +1,9 @@
 //! The symbol table of a file, and its entries.
 ghost use Rattle.std.specs.Prelude.{◌≡◌, ◌+◌, ◌≤◌, ◌/◌, length, filter, get_or, map, IfOk};
-ghost use Rattle.sh_types.specs.Elf as elf;
+ghost use Rattle.elf_rules.specs.Elf as elf;
 
 use elf_read::raw_symbol;
-use sh_types::{Head, RawSymbol};
+use elf_rules::{Head, RawSymbol};
 use std::alloc::{AllocError, Global};
 
 const SHT_SYMTAB: u32 = 2;

@@ -1,6 +1,6 @@
 //! What the loader must answer of patched files.
 use crate::patches::{Patch, first_file, patch_all, refusal};
-use sh_types::{ElfRule, LoadFault};
+use elf_rules::{ElfRule, LoadFault};
 use std::alloc::Global;
 use std::process::Abort;
 use std::test::Fail;

@@ -1,8 +1,8 @@
 //! The rules of splitting, and the limits on functions and code. st_value 8, st_size 16.
 use crate::cases::expect_all;
 use crate::patches::{START_SYMBOL, THREE_SYMBOL, refusal};
+use elf_rules::{LimitKind, LoadFault, SplitRule};
 use sample_files::{HOME, Sample, file_of};
-use sh_types::{LimitKind, LoadFault, SplitRule};
 use std::alloc::{AllocError, Global};
 use std::test::Fail;
 

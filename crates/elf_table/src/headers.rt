@@ -1,7 +1,7 @@
 //! The rules on the header and the program headers.
 use crate::cases::{by, expect_all};
 use crate::patches::{FIRST_PROGRAM, HUGE, Patch, SECOND_PROGRAM, first_file, refusal};
-use sh_types::{ElfRule, LimitKind, LoadFault};
+use elf_rules::{ElfRule, LimitKind, LoadFault};
 use std::test::Fail;
 
 #[test]

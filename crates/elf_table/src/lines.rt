@@ -1,6 +1,6 @@
 //! The line on each kind of refusal.
+use elf_rules::{ElfRule, LimitKind, LoadFault, SplitRule};
 use image_text::refusal_line;
-use sh_types::{ElfRule, LimitKind, LoadFault, SplitRule};
 use std::test::Fail;
 
 #[test]

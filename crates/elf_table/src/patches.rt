@@ -1,7 +1,7 @@
 //! The first guest's file, with numbers changed, and what the loader answers of it.
+use elf_rules::LoadFault;
 use guest_image::load_image;
 use sample_files::{HOME, Sample, file_of};
-use sh_types::LoadFault;
 use std::alloc::{AllocError, Global};
 use std::thread::Threads;
 

@@ -1,7 +1,7 @@
 //! The rules on executable sections: sh_type 4, sh_flags 8, sh_addr 16, sh_offset 24, sh_size 32.
 use crate::cases::{by, expect_all};
 use crate::patches::{HUGE, section};
-use sh_types::ElfRule;
+use elf_rules::ElfRule;
 use std::test::Fail;
 
 #[test]

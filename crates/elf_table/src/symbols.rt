@@ -1,7 +1,7 @@
 //! The rules on the symbol table, the entry and the names.
 use crate::cases::{by, expect_all};
 use crate::patches::{HUGE, START_SYMBOL, STRINGS_END, section};
-use sh_types::ElfRule;
+use elf_rules::ElfRule;
 use std::test::Fail;
 
 /// sh_type 4, sh_offset 24, sh_size 32, sh_link 40, sh_entsize 56.

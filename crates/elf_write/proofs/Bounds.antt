@@ -1,6 +1,6 @@
 -- The places and the sizes of the parts are numbers of eight bytes.
 use Rattle.std.proofs.Common.{◌≡◌, ℕ, ◌+◌, ◌*◌, ◌^◌, ◌<◌, Bool, true, false, length, refl, arith}
-use Rattle.rv_asm.specs.declared.object.Object.{Object}
+use Rattle.sh_types.specs.declared.objects.Object.{Object}
 use Rattle.elf_write.specs.declared.parts.Part.{Part}
 use Rattle.elf_write.specs.Parts.{marks_in, names_in, section_names, string_table, behind, text_part, data_part, text_records_part, data_records_part, symbols_part, strings_part, names_part, heads_part, parts_of}
 use Rattle.elf_write.specs.Writable.{IsWritable}

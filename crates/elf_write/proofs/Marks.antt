@@ -5,9 +5,9 @@ use Rattle.std.specs.List.{All}
 use Rattle.std.proofs.lemmas.List.{length-append}
 use Rattle.std.proofs.lemmas.List.Sums.{length-filter, count_by-le-length}
 use Rattle.std.proofs.lemmas.List.Elements.{All-weaker, All-filter}
-use Rattle.sh_types.specs.declared.elf.Symbol.{Symbol}
-use Rattle.rv_asm.specs.declared.object.Object.{Object}
-use Rattle.rv_asm.specs.declared.object.Mark.{Mark}
+use Rattle.sh_types.specs.declared.symbols.Symbol.{Symbol}
+use Rattle.sh_types.specs.declared.objects.Object.{Object}
+use Rattle.sh_types.specs.declared.objects.Mark.{Mark}
 use Rattle.elf_write.specs.Parts.{is_in, marks_in, string_table, names_in, text_part, data_part}
 use Rattle.elf_write.specs.Writable.{IsMark, IsWritable}
 use Rattle.elf_write.proofs.Sorting.{length_by_place, all_by_place}

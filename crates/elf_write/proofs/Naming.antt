@@ -9,11 +9,11 @@ use Rattle.std.proofs.lemmas.Bool.Decides.{nat_tests}
 use Rattle.std.proofs.lemmas.List.{length-append, length-take-le, take-append-drop}
 use Rattle.std.proofs.lemmas.List.Elements.{All-head, All-tail}
 use Rattle.std.proofs.lemmas.List.Sums.{take_while-cons}
-use Rattle.sh_types.specs.declared.elf.Head.{Head}
-use Rattle.sh_types.specs.declared.elf.RawSymbol.{RawSymbol}
-use Rattle.sh_types.specs.declared.elf.Symbol.{Symbol}
-use Rattle.sh_types.specs.Elf.{number_at, raw_symbol, places, symbol, name_at, symbols_of, raws_of, table_of, heads_of, is_symtab, only, no_head, part_of, names_of, section_names as section_names_of, symbol_names, string_head}
-use Rattle.rv_asm.specs.declared.object.Object.{Object}
+use Rattle.elf_rules.specs.declared.elf.Head.{Head}
+use Rattle.elf_rules.specs.declared.elf.RawSymbol.{RawSymbol}
+use Rattle.sh_types.specs.declared.symbols.Symbol.{Symbol}
+use Rattle.elf_rules.specs.Elf.{number_at, raw_symbol, places, symbol, name_at, symbols_of, raws_of, table_of, heads_of, is_symtab, only, no_head, part_of, names_of, section_names as section_names_of, symbol_names, string_head}
+use Rattle.sh_types.specs.declared.objects.Object.{Object}
 use Rattle.elf_write.specs.declared.parts.Part.{Part}
 use Rattle.elf_write.specs.declared.parts.Parts.{Parts}
 use Rattle.elf_write.specs.Fields.{fields}

@@ -2,7 +2,7 @@
 use Rattle.std.proofs.Common.{◌≡◌, ℕ, zero, suc, ◌+◌, ◌*◌, ◌/◌, ◌%◌, ◌^◌, ◌<◌, List, [], ◌∷◌, ◌++◌, length, get_or, take, refl, ap, sym, ◌∙◌, append_assoc, add-zero, arith}
 use Rattle.std.proofs.Math.Nat.{pow-suc, div-lt_iff_lt-mul}
 use Rattle.std.proofs.lemmas.List.{get_or-append-add, length-append}
-use Rattle.sh_types.specs.Elf.{number_at}
+use Rattle.elf_rules.specs.Elf.{number_at}
 use Rattle.elf_write.specs.Fields.{little, fields}
 use Rattle.elf_write.proofs.Widths.{widths, length_little}
 

@@ -2,11 +2,11 @@
 use Rattle.std.proofs.Common.{◌≡◌, ℕ, ◌+◌, ◌^◌, ◌<◌, true, false, List, [], ◌∷◌, ◌++◌, length, map, take, drop, refl, ap, sym, ◌∙◌, append_assoc, arith}
 use Rattle.std.proofs.Math.Seq.{take-length}
 use Rattle.std.proofs.lemmas.List.{append-nil, length-append, length-drop, length-take-le, take-append-drop}
-use Rattle.sh_types.specs.declared.elf.Head.{Head}
-use Rattle.sh_types.specs.declared.elf.Program.{Program}
-use Rattle.sh_types.specs.declared.elf.Segment.{Segment}
-use Rattle.sh_types.specs.Elf.{number_at, head_at, program, places, program_at, program_count, section_at, section_count, programs_of, heads_of, loads}
-use Rattle.rv_asm.specs.declared.object.Object.{Object}
+use Rattle.elf_rules.specs.declared.elf.Head.{Head}
+use Rattle.elf_rules.specs.declared.elf.Program.{Program}
+use Rattle.elf_rules.specs.declared.elf.Segment.{Segment}
+use Rattle.elf_rules.specs.Elf.{number_at, head_at, program, places, program_at, program_count, section_at, section_count, programs_of, heads_of, loads}
+use Rattle.sh_types.specs.declared.objects.Object.{Object}
 use Rattle.elf_write.specs.declared.parts.Parts.{Parts}
 use Rattle.elf_write.specs.Held.{SaysAll, loadable}
 use Rattle.elf_write.specs.Parts.{text_part, data_part, heads_part, parts_of}

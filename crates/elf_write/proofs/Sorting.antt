@@ -7,7 +7,7 @@ use Rattle.std.specs.Ordering.{is_lt, nat_cmp}
 use Rattle.std.proofs.lemmas.Bool.{cases_Bool}
 use Rattle.std.proofs.lemmas.Bool.Decides.{nat_tests}
 use Rattle.std.proofs.lemmas.List.Elements.{All-cons, All-tail, filter_agree}
-use Rattle.rv_asm.specs.declared.object.Mark.{Mark}
+use Rattle.sh_types.specs.declared.objects.Mark.{Mark}
 use Rattle.elf_write.specs.Parts.{put_by_place, by_place}
 
 place_of : Mark → ℕ
@@ -60,9 +60,9 @@ put_rises m [] rise = (λ k d lt. absurd (omega (arith, lt)), rise)
 put_rises m (n ∷ ns) rise =
     elim (cases_Bool (nat_le m.at n.at)) [
       | inl e ↦ rw e (
-          All-cons (λ (x : Mark). m.at ≤ x.at) n ns (at_most m.at n.at e) (λ k d lt. let low : m.at ≤ n.at = at_most m.at n.at e in let up = rise.0 k d lt in omega arith),
-          rise,
-        )
+        All-cons (λ (x : Mark). m.at ≤ x.at) n ns (at_most m.at n.at e) (λ k d lt. let low : m.at ≤ n.at = at_most m.at n.at e in let up = rise.0 k d lt in omega arith),
+        rise,
+      )
       | inr e ↦ rw e (all_put (λ (x : Mark). n.at ≤ x.at) m ns (above m.at n.at e) rise.0, put_rises m ns rise.1)
     ]
 
@@ -82,8 +82,10 @@ put_same p m (n ∷ ns) =
   where
     above_less : (a b : ℕ) → nat_le a b ≡ false → b < a
     above_less a b e = grind (arith, nat_tests)
+
     apart : (a b : ℕ) → b < a → (a == p) ≡ true → (b == p) ≡ false
     apart a b lt e = grind (arith, nat_tests)
+
     behind : n.at < m.at → filter (is_at p) (put_by_place m ns) ≡ cond (is_at p m) (m ∷ filter (is_at p) ns) (filter (is_at p) ns)
         → cond (is_at p n) (n ∷ filter (is_at p) (put_by_place m ns)) (filter (is_at p) (put_by_place m ns))
         ≡ cond (is_at p m) (m ∷ cond (is_at p n) (n ∷ filter (is_at p) ns) (filter (is_at p) ns)) (cond (is_at p n) (n ∷ filter (is_at p) ns) (filter (is_at p) ns))
@@ -118,10 +120,10 @@ not_lower x y xs ys rise e =
     elim (cases_Bool (nat_le y.at x.at)) [
       | inl low ↦ at_most y.at x.at low
       | inr high ↦
-        let lt : x.at < y.at = less y.at x.at high in
-        let none = none_at x.at (y ∷ ys) (All-cons (λ (n : Mark). x.at < n.at) y ys lt (λ k d inside. let up = rise.0 k d inside in omega arith)) in
-        let some : filter (is_at x.at) (x ∷ xs) ≡ x ∷ filter (is_at x.at) xs = rw (here x.at) refl in
-        absurd (cc)
+          let lt : x.at < y.at = less y.at x.at high in
+          let none = none_at x.at (y ∷ ys) (All-cons (λ (n : Mark). x.at < n.at) y ys lt (λ k d inside. let up = rise.0 k d inside in omega arith)) in
+          let some : filter (is_at x.at) (x ∷ xs) ≡ x ∷ filter (is_at x.at) xs = rw (here x.at) refl in
+          absurd (cc)
     ]
   where
     less : (a b : ℕ) → nat_le a b ≡ false → b < a
@@ -156,19 +158,20 @@ same (x ∷ xs) (y ∷ ys) rx ry e =
         let there : is_at x.at y ≡ true = rw at (here y.at) in
         let right : filter (is_at x.at) (y ∷ ys) ≡ y ∷ filter (is_at x.at) ys = rw there refl in
         cc
+
     tails : (p : ℕ) → x ≡ y → filter (is_at p) (x ∷ xs) ≡ filter (is_at p) (y ∷ ys) → filter (is_at p) xs ≡ filter (is_at p) ys
     tails p head e =
         elim (cases_Bool (is_at p x)) [
           | inl here ↦
-            let left : filter (is_at p) (x ∷ xs) ≡ x ∷ filter (is_at p) xs = rw here refl in
-            let there : is_at p y ≡ true = rw (sym head) here in
-            let right : filter (is_at p) (y ∷ ys) ≡ y ∷ filter (is_at p) ys = rw there refl in
-            cc
+              let left : filter (is_at p) (x ∷ xs) ≡ x ∷ filter (is_at p) xs = rw here refl in
+              let there : is_at p y ≡ true = rw (sym head) here in
+              let right : filter (is_at p) (y ∷ ys) ≡ y ∷ filter (is_at p) ys = rw there refl in
+              cc
           | inr off ↦
-            let left : filter (is_at p) (x ∷ xs) ≡ filter (is_at p) xs = rw off refl in
-            let there : is_at p y ≡ false = rw (sym head) off in
-            let right : filter (is_at p) (y ∷ ys) ≡ filter (is_at p) ys = rw there refl in
-            cc
+              let left : filter (is_at p) (x ∷ xs) ≡ filter (is_at p) xs = rw off refl in
+              let there : is_at p y ≡ false = rw (sym head) off in
+              let right : filter (is_at p) (y ∷ ys) ≡ filter (is_at p) ys = rw there refl in
+              cc
         ]
 
 -- ---- what the sort of the standard library gives

@@ -6,10 +6,10 @@ use Rattle.std.specs.List.Sorted.{IsStrictlyIncreasing}
 use Rattle.std.proofs.lemmas.List.{length-append, length-map}
 use Rattle.std.proofs.lemmas.List.Elements.{All-filter, All-map, filter_passes}
 use Rattle.std.proofs.lemmas.List.Filters.{length-filter_both}
-use Rattle.sh_types.specs.declared.elf.Symbol.{Symbol}
+use Rattle.sh_types.specs.declared.symbols.Symbol.{Symbol}
 use Rattle.asm_text.specs.declared.statements.Item.{Item}
-use Rattle.rv_asm.specs.declared.object.Object.{Object}
-use Rattle.rv_asm.specs.declared.object.Mark.{Mark}
+use Rattle.sh_types.specs.declared.objects.Object.{Object}
+use Rattle.sh_types.specs.declared.objects.Mark.{Mark}
 use Rattle.rv_asm.specs.Whole.{text_bytes, IsInside, AreRising, names_size, IsWhole}
 use Rattle.elf_write.specs.Parts.{is_in, string_table, names_in, text_part, data_part}
 use Rattle.elf_write.specs.Writable.{IsMark, IsWritable}

@@ -2,10 +2,10 @@
 use Rattle.std.proofs.Common.{◌≡◌, ℕ, zero, suc, ◌+◌, ◌*◌, ◌/◌, List, [], ◌∷◌, length, refl, ap, arith}
 use Rattle.std.specs.List.{concat, flat_map}
 use Rattle.std.proofs.lemmas.List.{length-append}
-use Rattle.sh_types.specs.declared.elf.Head.{Head}
-use Rattle.sh_types.specs.declared.elf.Segment.{Segment}
-use Rattle.sh_types.specs.declared.elf.Symbol.{Symbol}
-use Rattle.rv_asm.specs.declared.object.Mark.{Mark}
+use Rattle.elf_rules.specs.declared.elf.Head.{Head}
+use Rattle.elf_rules.specs.declared.elf.Segment.{Segment}
+use Rattle.sh_types.specs.declared.symbols.Symbol.{Symbol}
+use Rattle.sh_types.specs.declared.objects.Mark.{Mark}
 use Rattle.elf_write.specs.declared.parts.Parts.{Parts}
 use Rattle.elf_write.specs.Fields.{little, fields}
 use Rattle.elf_write.specs.Tables.{file_header, program_header, section_header, record_of, records, symbol_entry, symbol_table}

@@ -1,12 +1,12 @@
 -- What the file of an object holds, and where, and what its headers say.
 use Rattle.std.specs.List.{All}
 use Rattle.std.specs.Prelude.{◌≡◌, ℕ, ◌+◌, ◌^◌, ◌<◌, true, false, List, [], ◌∷◌, length, map, take, drop}
-use Rattle.sh_types.specs.declared.elf.Head.{Head}
-use Rattle.sh_types.specs.declared.elf.Program.{Program}
-use Rattle.sh_types.specs.declared.elf.Segment.{Segment}
-use Rattle.sh_types.specs.declared.elf.Symbol.{Symbol}
-use Rattle.sh_types.specs.Elf.{magic_of, class_of, order_of, type_of, machine_of, entry_of, names_of, programs_of, segments_of, heads_of}
-use Rattle.rv_asm.specs.declared.object.Object.{Object}
+use Rattle.elf_rules.specs.declared.elf.Head.{Head}
+use Rattle.elf_rules.specs.declared.elf.Program.{Program}
+use Rattle.elf_rules.specs.declared.elf.Segment.{Segment}
+use Rattle.sh_types.specs.declared.symbols.Symbol.{Symbol}
+use Rattle.elf_rules.specs.Elf.{magic_of, class_of, order_of, type_of, machine_of, entry_of, names_of, programs_of, segments_of, heads_of}
+use Rattle.sh_types.specs.declared.objects.Object.{Object}
 use Rattle.elf_write.specs.declared.parts.Part.{Part}
 use Rattle.elf_write.specs.declared.parts.Parts.{Parts}
 use Rattle.elf_write.specs.Parts.{home_of, marks_in, names_in, section_names, string_table}

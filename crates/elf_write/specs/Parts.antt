@@ -3,9 +3,9 @@
 use Rattle.std.specs.Prelude.{ℕ, ◌+◌, ◌*◌, Bool, true, false, not, List, [], ◌∷◌, ◌++◌, length, map, filter, codes, nat_le, if◌then◌else◌}
 use Rattle.std.specs.List.{concat, flat_map}
 use Rattle.std.specs.Int.{next_multiple_of}
-use Rattle.sh_types.specs.declared.elf.Symbol.{Symbol}
-use Rattle.rv_asm.specs.declared.object.Object.{Object}
-use Rattle.rv_asm.specs.declared.object.Mark.{Mark}
+use Rattle.sh_types.specs.declared.symbols.Symbol.{Symbol}
+use Rattle.sh_types.specs.declared.objects.Object.{Object}
+use Rattle.sh_types.specs.declared.objects.Mark.{Mark}
 use Rattle.elf_write.specs.declared.parts.Part.{Part}
 use Rattle.elf_write.specs.declared.parts.Parts.{Parts}
 

@@ -2,10 +2,10 @@
 -- Header", "Symbol Table", "Relocation"; RISC-V psABI, "File Header").
 use Rattle.std.specs.Prelude.{ℕ, ◌+◌, ◌*◌, ◌%◌, ◌^◌, List, [], ◌∷◌, ◌++◌, length, if◌then◌else◌}
 use Rattle.std.specs.List.{flat_map}
-use Rattle.sh_types.specs.declared.elf.Head.{Head}
-use Rattle.sh_types.specs.declared.elf.Segment.{Segment}
-use Rattle.sh_types.specs.declared.elf.Symbol.{Symbol}
-use Rattle.rv_asm.specs.declared.object.Mark.{Mark}
+use Rattle.elf_rules.specs.declared.elf.Head.{Head}
+use Rattle.elf_rules.specs.declared.elf.Segment.{Segment}
+use Rattle.sh_types.specs.declared.symbols.Symbol.{Symbol}
+use Rattle.sh_types.specs.declared.objects.Mark.{Mark}
 use Rattle.elf_write.specs.Fields.{fields}
 
 -- ---- headers

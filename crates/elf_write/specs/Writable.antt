@@ -1,8 +1,8 @@
 -- What objects can be written.
 use Rattle.std.specs.Prelude.{◌-◌, ◌^◌, ◌<◌, ◌≤◌, length, if◌then◌else◌}
 use Rattle.std.specs.List.{All}
-use Rattle.rv_asm.specs.declared.object.Object.{Object}
-use Rattle.rv_asm.specs.declared.object.Mark.{Mark}
+use Rattle.sh_types.specs.declared.objects.Object.{Object}
+use Rattle.sh_types.specs.declared.objects.Mark.{Mark}
 use Rattle.elf_write.specs.Parts.{string_table, names_in, text_part, data_part}
 
 -- the mark lies in its part, and names a symbol

@@ -1,11 +1,11 @@
 -- The file of an object, part by part (System V gABI, "Object Files"). The layout is this project's own.
 use Rattle.std.specs.Prelude.{ℕ, ◌-◌, Bool, true, false, List, [], ◌∷◌, ◌++◌, length, replicate, slice_index}
 use Rattle.std.specs.List.{concat, flat_map}
-use Rattle.sh_types.specs.declared.elf.Head.{Head}
-use Rattle.sh_types.specs.declared.elf.Segment.{Segment}
-use Rattle.sh_types.specs.Elf.{no_head}
+use Rattle.elf_rules.specs.declared.elf.Head.{Head}
+use Rattle.elf_rules.specs.declared.elf.Segment.{Segment}
+use Rattle.elf_rules.specs.Elf.{no_head}
 use Rattle.sh_types.specs.Image.{starts_of}
-use Rattle.rv_asm.specs.declared.object.Object.{Object}
+use Rattle.sh_types.specs.declared.objects.Object.{Object}
 use Rattle.elf_write.specs.declared.parts.Part.{Part}
 use Rattle.elf_write.specs.declared.parts.Parts.{Parts}
 use Rattle.elf_write.specs.Fields.{little}

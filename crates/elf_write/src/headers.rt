@@ -6,7 +6,7 @@ ghost use Rattle.elf_write.specs.Written as written;
 use crate::fields::Field::{Byte, Half, Word, Xword};
 use crate::fields::put;
 use crate::parts::{PAGE, Part, Parts};
-use sh_types::Segment;
+use elf_rules::Segment;
 use std::alloc::AllocError;
 
 /// \x7fELF, with the lowest byte first.

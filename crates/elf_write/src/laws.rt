@@ -1,11 +1,11 @@
 //! What the file of an object has.
 ghost use Rattle.std.specs.List.{All};
 ghost use Rattle.std.specs.Prelude.{◌≡◌, map, ◌<◌, ◌≤◌, ◌^◌, List, ℕ, None, length};
-ghost use Rattle.rv_asm.specs.declared.object.Object.{Object};
+ghost use Rattle.sh_types.specs.declared.objects.Object.{Object};
 ghost use Rattle.rv_asm.specs.Object.{object_of};
 ghost use Rattle.rv_asm.specs.Passes.{fault_of};
-ghost use Rattle.sh_types.specs.declared.elf.Head.{Head};
-ghost use Rattle.sh_types.specs.Elf.{heads_of, name_at, section_names as section_names_of, symbols_of};
+ghost use Rattle.elf_rules.specs.declared.elf.Head.{Head};
+ghost use Rattle.elf_rules.specs.Elf.{heads_of, name_at, section_names as section_names_of, symbols_of};
 ghost use Rattle.elf_write.specs.Held.{HoldsAll, IsPlain, SaysAll};
 ghost use Rattle.elf_write.specs.Parts.{parts_of, section_names};
 ghost use Rattle.elf_write.specs.Writable.{IsWritable};

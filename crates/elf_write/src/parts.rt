@@ -5,8 +5,7 @@ ghost use Rattle.elf_write.specs.Parts as part;
 ghost use Rattle.elf_write.specs.Writable.{IsWritable};
 
 use crate::strings::{SECTION_NAMES, strings_size};
-use rv_asm::{Mark, Object};
-use sh_types::Items;
+use sh_types::{Items, Mark, Object};
 
 /// Where the code stands in the file.
 const TEXT_AT: u64 = 0x1000;

@@ -1,13 +1,13 @@
 //! Relocation records (System V gABI, "Relocation").
 ghost use Rattle.std.specs.Prelude.{◌≡◌, ◌++◌, ◌+◌, ◌^◌, ◌<◌, filter, IfOk, OnOk};
 ghost use Rattle.std.specs.List.{All};
-ghost use Rattle.rv_asm.specs.declared.object.Mark.{Mark};
+ghost use Rattle.sh_types.specs.declared.objects.Mark.{Mark};
 ghost use Rattle.elf_write.specs.Parts.{is_in, marks_in};
 ghost use Rattle.elf_write.specs.Tables.{record_of, records};
 
 use crate::fields::Field::Xword;
 use crate::fields::put;
-use rv_asm::Mark;
+use sh_types::Mark;
 use std::alloc::{AllocError, Global};
 
 /// The value of r_addend.
@@ -37,11 +37,7 @@ fn marks_of_part(alloc: Global, in_text: bool, marks: &[Mark]) -> Result<Vec<Mar
 }
 
 /// The marks that are in the code, or those in the data, by rising places.
-pub fn marks_by_place(
-    alloc: Global,
-    in_text: bool,
-    marks: &[Mark],
-) -> Result<Vec<Mark>, AllocError>
+pub fn marks_by_place(alloc: Global, in_text: bool, marks: &[Mark]) -> Result<Vec<Mark>, AllocError>
     ensures { IfOk result (λ found. found.items ≡ marks_in in_text marks.now) }
 {
     let mut found = marks_of_part(alloc, in_text, marks)?;

@@ -6,7 +6,7 @@ ghost use Rattle.elf_write.specs.Written as written;
 use crate::fields::Field::{Word, Xword};
 use crate::fields::put;
 use crate::parts::{ENTRY_SIZE, Part, Parts};
-use sh_types::Head;
+use elf_rules::Head;
 use std::alloc::AllocError;
 
 // The values of sh_type.

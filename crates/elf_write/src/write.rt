@@ -13,8 +13,7 @@ use crate::records::{marks_by_place, put_records};
 use crate::sections::{put_sections, sections};
 use crate::strings::{put_section_names, put_strings};
 use crate::symbols::put_symbols;
-use rv_asm::Object;
-use sh_types::{Bytes, NoMemory};
+use sh_types::{Bytes, NoMemory, Object};
 use std::alloc::{AllocError, Global};
 
 /// Where the entry function stands.

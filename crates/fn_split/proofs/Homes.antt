@@ -6,8 +6,8 @@ use Rattle.std.specs.List.Sorted.{IsPermutation}
 use Rattle.std.proofs.lemmas.List.Sorted.{list_any-IsPermutation}
 use Rattle.std.proofs.lemmas.Bool.{false≢true, true≢false, cases_order, cases_Bool}
 use Rattle.std.proofs.lemmas.Bool.Decides.{nat_tests}
-use Rattle.sh_types.specs.declared.code.Start.{Start}
-use Rattle.sh_types.specs.Splitting.{put, homes}
+use Rattle.elf_rules.specs.declared.starts.Start.{Start}
+use Rattle.elf_rules.specs.Splitting.{put, homes}
 
 pub chosen : {X : Type 0} (b : Bool) (x y : X) (P : X → Type 0) → (b ≡ true → P x) → (b ≡ false → P y) → P (cond b x y)
 chosen true x y P f g = f refl

@@ -10,8 +10,8 @@ use Rattle.std.specs.List.Sorted.{IsPermutation, IsNonDecreasingBy, IsStableByKe
 use Rattle.std.proofs.lemmas.List.Elements.{filter_agree}
 use Rattle.std.proofs.lemmas.Bool.Decides.{nat_tests}
 use Rattle.std.proofs.Math.Path.{fun_ext}
-use Rattle.sh_types.specs.declared.code.Start.{Start}
-use Rattle.sh_types.specs.Splitting.{put, homes, greatest, first, all_at, joined_at, joined, no_start}
+use Rattle.elf_rules.specs.declared.starts.Start.{Start}
+use Rattle.elf_rules.specs.Splitting.{put, homes, greatest, first, all_at, joined_at, joined, no_start}
 use Rattle.fn_split.specs.Merge.{grown, merged, merged_all}
 use Rattle.fn_split.proofs.Homes.{chosen, Above, put-above, homes-permutation}
 

@@ -3,11 +3,11 @@ use Rattle.std.proofs.Common.{◌≡◌, ℕ, ◌+◌, ◌<◌, ◌≤◌, ◌^�
 use Rattle.std.specs.List.{AllByRecursion}
 use Rattle.std.proofs.lemmas.List.Elements.{All-from_recursion, recursion_from_All}
 use Rattle.std.proofs.lemmas.Bool.Decides.{nat_tests}
-use Rattle.sh_types.specs.declared.code.Start.{Start}
-use Rattle.sh_types.specs.declared.refusals.SplitFault.{SplitFault}
-use Rattle.sh_types.specs.declared.refusals.SplitRule.{SplitRule}
+use Rattle.elf_rules.specs.declared.starts.Start.{Start}
+use Rattle.elf_rules.specs.declared.refusals.SplitFault.{SplitFault}
+use Rattle.elf_rules.specs.declared.refusals.SplitRule.{SplitRule}
 use Rattle.fn_split.specs.Low.{EndsLow}
-use Rattle.sh_types.specs.Splitting.{first_refused, fault_of, refused_or}
+use Rattle.elf_rules.specs.Splitting.{first_refused, fault_of, refused_or}
 
 no_fault : (f : Start) (rule : Option SplitRule) (later : Option SplitFault) → refused_or f rule later ≡ None → (rule ≡ None) × (later ≡ None)
 no_fault f None later h = (refl, h)

@@ -1,6 +1,6 @@
 -- Starts in sections that a machine can run.
 use Rattle.std.specs.Prelude.{◌≤◌}
-use Rattle.sh_types.specs.declared.code.Start.{Start}
+use Rattle.elf_rules.specs.declared.starts.Start.{Start}
 
 -- the section of a start ends at or below 0x3f000000
 abbrev pub EndsLow : Start → Type 0

@@ -1,6 +1,6 @@
 -- One pass over starts in order of their homes.
 use Rattle.std.specs.Prelude.{◌==◌, max, List, [], ◌∷◌, if◌then◌else◌}
-use Rattle.sh_types.specs.declared.code.Start.{Start}
+use Rattle.elf_rules.specs.declared.starts.Start.{Start}
 
 -- a start with the greater size of two
 abbrev pub grown : Start → Start → Start

@@ -1,14 +1,15 @@
 //! Functions with their names, or the one that is refused.
 ghost use Rattle.std.specs.Prelude.{◌≡◌, ◌<◌, ◌^◌, All, IfOk, IsTrue, map};
 ghost use Rattle.std.specs.List.{list_any};
-ghost use Rattle.sh_types.specs.declared.code.Start.{Start};
-ghost use Rattle.sh_types.specs.ElfRules.{runs_at};
-ghost use Rattle.sh_types.specs.Splitting as splitting;
-ghost use Rattle.sh_types.specs.Splitting.{IsBounded, Splits, functions_of, split_refusal};
+ghost use Rattle.elf_rules.specs.declared.starts.Start.{Start};
+ghost use Rattle.elf_rules.specs.ElfRules.{runs_at};
+ghost use Rattle.elf_rules.specs.Splitting as splitting;
+ghost use Rattle.elf_rules.specs.Splitting.{IsBounded, Splits, functions_of, split_refusal};
 
 use crate::ranges::ranges;
 use crate::refusal::refusal;
-use sh_types::{Function, Items, Section, SplitFault, Start, Symbol, SymbolName};
+use elf_rules::{SplitFault, Start};
+use sh_types::{Function, Items, Section, Symbol, SymbolName};
 use std::alloc::{AllocError, Global};
 
 /// The name of the symbol at a place of the table, or that of the function which is added.
@@ -53,7 +54,7 @@ fn named(alloc: Global, symbols: &[Symbol], starts: &[Start]) -> Result<Vec<Func
 /// empty or leaves its section (Size); it begins before the end of the one before (Overlap). Where there is none, it
 /// names the first function that has the entry inside, after its start (EntryInside). It is NoMemory where memory is
 /// refused. The time is that of sorting the symbols.
-#[tactic(auto, unfolding(sh_types::specs::Splitting::split_refusal, sh_types::specs::Splitting::functions_of))]
+#[tactic(auto, unfolding(elf_rules::specs::Splitting::split_refusal, elf_rules::specs::Splitting::functions_of))]
 pub fn split(
     alloc: Global,
     symbols: &Items<Symbol>,

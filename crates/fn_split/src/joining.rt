@@ -1,10 +1,10 @@
 //! Starts of one home join.
 ghost use Rattle.std.specs.Prelude.{◌≡◌, All, IfOk};
-ghost use Rattle.sh_types.specs.Splitting as splitting;
+ghost use Rattle.elf_rules.specs.Splitting as splitting;
 ghost use Rattle.fn_split.specs.Low.{EndsLow};
 ghost use Rattle.fn_split.specs.Merge.{grown, merged, merged_all};
 
-use sh_types::Start;
+use elf_rules::Start;
 use std::alloc::{AllocError, Global};
 
 /// The first start with the greater of two sizes.

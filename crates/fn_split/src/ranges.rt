@@ -1,17 +1,18 @@
 //! The ranges of functions: starts of one home join, and a size that is not given runs to the next start.
 ghost use Rattle.std.specs.Prelude.{◌≡◌, All, IfOk, IsTrue};
 ghost use Rattle.std.specs.List.{list_any};
-ghost use Rattle.sh_types.specs.ElfRules as rules;
-ghost use Rattle.sh_types.specs.Splitting as splitting;
-ghost use Rattle.sh_types.specs.Splitting.{IsBounded};
+ghost use Rattle.elf_rules.specs.ElfRules as rules;
+ghost use Rattle.elf_rules.specs.Splitting as splitting;
+ghost use Rattle.elf_rules.specs.Splitting.{IsBounded};
 ghost use Rattle.fn_split.specs.Low.{EndsLow};
 
 use crate::joining::joined;
 use crate::starts::all_starts;
-use sh_types::{Section, Start, Symbol};
+use elf_rules::Start;
+use sh_types::{Section, Symbol};
 use std::alloc::{AllocError, Global};
 
-#[tactic(auto, unfolding(sh_types::specs::Splitting::resized))]
+#[tactic(auto, unfolding(elf_rules::specs::Splitting::resized))]
 fn resized(start: Start, next: Option<Start>) -> Start
     requires { EndsLow start }
     ensures resized { result ≡ splitting.resized start next }
@@ -43,7 +44,7 @@ fn sized(alloc: Global, starts: &[Start]) -> Result<Vec<Start>, AllocError>
 }
 
 /// The functions with their sizes, by rising homes.
-#[tactic(auto, unfolding(sh_types::specs::Splitting::ranges_of))]
+#[tactic(auto, unfolding(elf_rules::specs::Splitting::ranges_of))]
 pub fn ranges(
     alloc: Global,
     symbols: &[Symbol],

@@ -1,13 +1,13 @@
 //! Which function is refused.
 ghost use Rattle.std.specs.Prelude.{◌≡◌, ◌<◌, ◌^◌, All, None};
-ghost use Rattle.sh_types.specs.declared.code.Start.{Start};
-ghost use Rattle.sh_types.specs.Splitting as splitting;
+ghost use Rattle.elf_rules.specs.declared.starts.Start.{Start};
+ghost use Rattle.elf_rules.specs.Splitting as splitting;
 ghost use Rattle.fn_split.specs.Low.{EndsLow};
 
-use sh_types::{SplitFault, SplitRule, Start};
+use elf_rules::{SplitFault, SplitRule, Start};
 
 /// What is wrong with a function, given the end of the one before.
-#[tactic(auto, unfolding(sh_types::specs::Splitting::fault_of))]
+#[tactic(auto, unfolding(elf_rules::specs::Splitting::fault_of))]
 fn fault(before: u128, function: &Start) -> Option<SplitRule>
     ensures { result ≡ splitting.fault_of before function.now }
 {
@@ -45,7 +45,7 @@ fn first_refused(functions: &[Start]) -> Option<SplitFault>
     None
 }
 
-#[tactic(auto, unfolding(sh_types::specs::Splitting::holds_inside))]
+#[tactic(auto, unfolding(elf_rules::specs::Splitting::holds_inside))]
 fn holds_inside(entry: u64, function: &Start) -> bool
     ensures { result ≡ splitting.holds_inside entry function.now }
 {

@@ -1,13 +1,14 @@
 //! The starts that symbols give, and the one that is added for the entry.
 ghost use Rattle.std.specs.Prelude.{◌≡◌, All, IfOk, IsTrue};
 ghost use Rattle.std.specs.List.{list_any};
-ghost use Rattle.sh_types.specs.ElfRules as rules;
-ghost use Rattle.sh_types.specs.Splitting as splitting;
-ghost use Rattle.sh_types.specs.Splitting.{IsBounded};
+ghost use Rattle.elf_rules.specs.ElfRules as rules;
+ghost use Rattle.elf_rules.specs.Splitting as splitting;
+ghost use Rattle.elf_rules.specs.Splitting.{IsBounded};
 ghost use Rattle.fn_split.specs.Low.{EndsLow};
 
 use crate::joining::joined;
-use sh_types::{Section, Start, Symbol};
+use elf_rules::{Start, runs_at};
+use sh_types::{Section, Symbol};
 use std::alloc::{AllocError, Global};
 
 const STT_FUNC: u8 = 2;
@@ -71,7 +72,7 @@ fn from_symbols(
     Ok(found)
 }
 
-#[tactic(auto, unfolding(sh_types::specs::Splitting::covers))]
+#[tactic(auto, unfolding(elf_rules::specs::Splitting::covers))]
 fn covers(entry: u64, start: &Start) -> bool
     ensures { result ≡ splitting.covers entry start.now }
 {
@@ -86,18 +87,8 @@ fn any_covers(entry: u64, starts: &[Start]) -> bool
     starts.iter().any(|start| covers(entry, start))
 }
 
-#[tactic(auto, unfolding(sh_types::specs::ElfRules::runs_at))]
-fn runs_at(entry: u64, section: &Section) -> bool
-    ensures runs { result ≡ rules.runs_at entry section.now }
-    ensures code { IsTrue result → IsTrue section.now.executable }
-{
-    section.executable
-        && section.start <= entry
-        && u128::from(entry) < u128::from(section.start) + u128::from(section.size)
-}
-
 /// The start that is added for the entry.
-#[tactic(auto, unfolding(sh_types::specs::Splitting::entry_start))]
+#[tactic(auto, unfolding(elf_rules::specs::Splitting::entry_start))]
 fn entry_start(sections: &[Section], entry: u64) -> Start
     requires bounded { All IsBounded sections.now }
     requires entry { IsTrue (list_any (rules.runs_at entry) sections.now) }
@@ -113,7 +104,7 @@ fn entry_start(sections: &[Section], entry: u64) -> Start
 }
 
 /// All starts: those of the symbols, and the entry where no function covers it.
-#[tactic(auto, unfolding(sh_types::specs::Splitting::all_starts))]
+#[tactic(auto, unfolding(elf_rules::specs::Splitting::all_starts))]
 pub fn all_starts(
     alloc: Global,
     symbols: &[Symbol],

@@ -3,18 +3,18 @@ use Rattle.std.proofs.Common.{◌≡◌, ℕ, ◌≤◌, ◌<◌, ◌^◌, List,
 use Rattle.std.specs.Prelude.{nat_lt}
 use Rattle.std.proofs.lemmas.Bool.{cases_Bool}
 use Rattle.std.proofs.lemmas.Bool.Decides.{nat_tests}
-use Rattle.sh_types.specs.declared.elf.Elf.{Elf}
-use Rattle.sh_types.specs.declared.elf.Segment.{Segment}
-use Rattle.sh_types.specs.declared.refusals.ElfFault.{ElfFault}
-use Rattle.sh_types.specs.declared.refusals.ElfFault.TheVariants.{Rule}
-use Rattle.sh_types.specs.declared.refusals.ElfRule.{ElfRule}
-use Rattle.sh_types.specs.declared.refusals.LimitKind.{LimitKind}
-use Rattle.sh_types.specs.declared.refusals.LimitKind.TheVariants as kind
-use Rattle.sh_types.specs.declared.refusals.LoadFault.{LoadFault}
-use Rattle.sh_types.specs.declared.refusals.LoadFault.TheVariants as load
-use Rattle.sh_types.specs.Accepted.{Accepts, above, by_rule, mapped_by, or_later}
-use Rattle.sh_types.specs.Elf.{segments_of}
-use Rattle.sh_types.specs.ElfRules.{Reads, elf_of, first_failing, symbol_rules, table_rules}
+use Rattle.elf_rules.specs.declared.elf.Elf.{Elf}
+use Rattle.elf_rules.specs.declared.elf.Segment.{Segment}
+use Rattle.elf_rules.specs.declared.refusals.ElfFault.{ElfFault}
+use Rattle.elf_rules.specs.declared.refusals.ElfFault.TheVariants.{Rule}
+use Rattle.elf_rules.specs.declared.refusals.ElfRule.{ElfRule}
+use Rattle.elf_rules.specs.declared.refusals.LimitKind.{LimitKind}
+use Rattle.elf_rules.specs.declared.refusals.LimitKind.TheVariants as kind
+use Rattle.elf_rules.specs.declared.refusals.LoadFault.{LoadFault}
+use Rattle.elf_rules.specs.declared.refusals.LoadFault.TheVariants as load
+use Rattle.elf_rules.specs.Accepted.{Accepts, above, by_rule, mapped_by, or_later}
+use Rattle.elf_rules.specs.Elf.{segments_of}
+use Rattle.elf_rules.specs.ElfRules.{Reads, elf_of, first_failing, symbol_rules, table_rules}
 use Rattle.guest_image.specs.Stages.{symbol_refusal}
 use Rattle.guest_image.proofs.Refusing.{whole_refusal}
 

@@ -5,10 +5,10 @@ use Rattle.std.specs.List.Sorted.{IsNonDecreasingBy}
 use Rattle.std.proofs.lemmas.Bool.{cases_Bool, cases_lt, false≢true}
 use Rattle.std.proofs.lemmas.Bool.Decides.{nat_tests}
 use Rattle.std.proofs.lemmas.List.Elements.{All-weaker, filter_passes}
-use Rattle.sh_types.specs.declared.elf.Head.{Head}
-use Rattle.sh_types.specs.declared.elf.Segment.{Segment}
-use Rattle.sh_types.specs.Accepted.{codes_within, is_inside, section_with}
-use Rattle.sh_types.specs.Elf.{no_head}
+use Rattle.elf_rules.specs.declared.elf.Head.{Head}
+use Rattle.elf_rules.specs.declared.elf.Segment.{Segment}
+use Rattle.elf_rules.specs.Accepted.{codes_within, is_inside, section_with}
+use Rattle.elf_rules.specs.Elf.{no_head}
 use Rattle.guest_image.specs.Order.{AreApart, StartsFrom}
 
 -- ---- sections that are apart rise

@@ -6,10 +6,10 @@ use Rattle.std.proofs.lemmas.List.{length-map}
 use Rattle.std.proofs.lemmas.List.Elements.{recursion_from_All}
 use Rattle.std.proofs.lemmas.Bool.{cases_Bool}
 use Rattle.load_law.specs.Placed.{IsPlaced}
-use Rattle.sh_types.specs.declared.elf.Program.{Program}
-use Rattle.sh_types.specs.declared.elf.Segment.{Segment}
-use Rattle.sh_types.specs.Accepted.{mapped_by}
-use Rattle.sh_types.specs.Elf.{number_at, places, loads, program, program_at, program_count, programs_of, segments_of}
+use Rattle.elf_rules.specs.declared.elf.Program.{Program}
+use Rattle.elf_rules.specs.declared.elf.Segment.{Segment}
+use Rattle.elf_rules.specs.Accepted.{mapped_by}
+use Rattle.elf_rules.specs.Elf.{number_at, places, loads, program, program_at, program_count, programs_of, segments_of}
 
 abbrev AreBytes : List ℕ → Type 0
 AreBytes b = (i : ℕ) → get_or b i 0 < 2 ^ 8

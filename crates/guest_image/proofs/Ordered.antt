@@ -6,12 +6,12 @@ use Rattle.std.proofs.lemmas.List.Elements.{All-filter, All-from_recursion, recu
 use Rattle.std.proofs.lemmas.Bool.{cases_Bool}
 use Rattle.std.proofs.Common.{inl, inr}
 use Rattle.load_law.specs.Placed.{IsPlaced}
-use Rattle.sh_types.specs.declared.elf.Head.{Head}
-use Rattle.sh_types.specs.declared.elf.Segment.{Segment}
-use Rattle.sh_types.specs.Accepted.{codes_in_order, filled_in_order, put_by, rising_by}
-use Rattle.sh_types.specs.Elf.{heads_of, is_code, section_of, sections_of, segments_of}
-use Rattle.sh_types.specs.ElfRules.{has_memory}
-use Rattle.sh_types.specs.Splitting.{IsBounded}
+use Rattle.elf_rules.specs.declared.elf.Head.{Head}
+use Rattle.elf_rules.specs.declared.elf.Segment.{Segment}
+use Rattle.elf_rules.specs.Accepted.{codes_in_order, filled_in_order, put_by, rising_by}
+use Rattle.elf_rules.specs.Elf.{heads_of, is_code, section_of, sections_of, segments_of}
+use Rattle.elf_rules.specs.ElfRules.{has_memory}
+use Rattle.elf_rules.specs.Splitting.{IsBounded}
 use Rattle.guest_image.specs.Order.{AreApart, EndsLow}
 
 -- ---- a list by rising keys

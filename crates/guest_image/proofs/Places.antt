@@ -1,7 +1,7 @@
 -- The places of words, one more at the front.
 use Rattle.std.proofs.Common.{◌≡◌, ℕ, suc, ◌+◌, ◌-◌, ◌<◌, ◌≤◌, ◌∷◌, ◌*◌, mul-suc, ap, sym, ◌∙◌, ◌++◌, List, [], append_assoc, arith}
 use Rattle.std.specs.Prelude.{map}
-use Rattle.sh_types.specs.Elf.{places}
+use Rattle.elf_rules.specs.Elf.{places}
 
 places_next : (step place count i : ℕ) → i < count → places step place (count - i) ≡ place ∷ places step (place + step) (count - (i + 1))
 places_next step place count i h =

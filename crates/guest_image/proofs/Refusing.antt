@@ -1,15 +1,15 @@
 -- How the refusals of one step and of the steps behind it join.
 use Rattle.std.proofs.Common.{◌≡◌, ℕ, List, Option, None, Result, Ok, Err, refl, sym, ap, ◌∙◌, subst}
 use Rattle.sh_types.specs.declared.code.Function.{Function}
-use Rattle.sh_types.specs.declared.elf.Elf.{Elf}
-use Rattle.sh_types.specs.declared.elf.Segment.{Segment}
-use Rattle.sh_types.specs.declared.elf.Symbol.{Symbol}
-use Rattle.sh_types.specs.declared.refusals.LimitKind.TheVariants as kind
-use Rattle.sh_types.specs.declared.refusals.LoadFault.{LoadFault}
-use Rattle.sh_types.specs.Accepted.{above, by_rule, file_functions, mapped_by, or_later, refusal_of}
-use Rattle.sh_types.specs.Elf.{entry_of, sections_of, segments_of, symbols_of}
-use Rattle.sh_types.specs.ElfRules.{IsReadFrom, first_failing, symbol_rules, table_rules}
-use Rattle.sh_types.specs.Splitting.{functions_of, split_refusal}
+use Rattle.elf_rules.specs.declared.elf.Elf.{Elf}
+use Rattle.elf_rules.specs.declared.elf.Segment.{Segment}
+use Rattle.sh_types.specs.declared.symbols.Symbol.{Symbol}
+use Rattle.elf_rules.specs.declared.refusals.LimitKind.TheVariants as kind
+use Rattle.elf_rules.specs.declared.refusals.LoadFault.{LoadFault}
+use Rattle.elf_rules.specs.Accepted.{above, by_rule, file_functions, mapped_by, or_later, refusal_of}
+use Rattle.elf_rules.specs.Elf.{entry_of, sections_of, segments_of, symbols_of}
+use Rattle.elf_rules.specs.ElfRules.{IsReadFrom, first_failing, symbol_rules, table_rules}
+use Rattle.elf_rules.specs.Splitting.{functions_of, split_refusal}
 use Rattle.guest_image.specs.Stages.{AreFunctions, Passes, Stops, function_refusal, limit_refusal, symbol_refusal}
 
 -- the rules on tables, and what follows them

@@ -7,7 +7,7 @@ use Rattle.std.specs.Ordering.{is_lt}
 use Rattle.std.proofs.lemmas.Bool.{cases_Bool, cases_order}
 use Rattle.std.proofs.lemmas.Bool.Decides.{nat_tests}
 use Rattle.std.proofs.lemmas.List.Elements.{filter_agree}
-use Rattle.sh_types.specs.Accepted.{put_by, rising_by}
+use Rattle.elf_rules.specs.Accepted.{put_by, rising_by}
 
 -- no key is below m
 abbrev Above : {X : Type 0} → (X → ℕ) → ℕ → List X → Type 0

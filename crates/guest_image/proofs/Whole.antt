@@ -5,11 +5,11 @@ use Rattle.load_law.specs.Placed.{HasWords}
 use Rattle.sh_types.specs.declared.code.Function.{Function}
 use Rattle.sh_types.specs.declared.code.Image.{Image}
 use Rattle.sh_types.specs.declared.code.Region.{Region}
-use Rattle.sh_types.specs.declared.elf.Head.{Head}
-use Rattle.sh_types.specs.Accepted.{codes_in_order, file_functions, file_regions, function_words, loaded_image}
-use Rattle.sh_types.specs.Elf.{entry_of, sections_of, symbols_of}
+use Rattle.elf_rules.specs.declared.elf.Head.{Head}
+use Rattle.elf_rules.specs.Accepted.{codes_in_order, file_functions, file_regions, function_words, loaded_image}
+use Rattle.elf_rules.specs.Elf.{entry_of, sections_of, symbols_of}
 use Rattle.sh_types.specs.Image.{number_of, starts_of}
-use Rattle.sh_types.specs.Splitting.{functions_of}
+use Rattle.elf_rules.specs.Splitting.{functions_of}
 
 pub functions_are : (b : List ℕ) (fs : List Function) → fs ≡ functions_of (symbols_of b) (sections_of b) (entry_of b) → fs ≡ file_functions b
 unfolding file_functions

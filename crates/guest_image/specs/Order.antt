@@ -1,6 +1,6 @@
 -- Sections by rising addresses, and where they start and end. This project's own.
 use Rattle.std.specs.Prelude.{◌+◌, ◌<◌, ◌≤◌, ℕ, List, length, slice_index_or}
-use Rattle.sh_types.specs.declared.elf.Head.{Head}
+use Rattle.elf_rules.specs.declared.elf.Head.{Head}
 
 -- each section ends at or below the start of the next
 abbrev pub AreApart : List Head → Type 0

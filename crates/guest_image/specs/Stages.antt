@@ -1,20 +1,20 @@
 -- The refusals of a file in parts, and what a step of loading tells. This project's own.
 use Rattle.std.specs.Prelude.{◌≡◌, ◌≤◌, ℕ, List, length, Option, Some, None, Result, Ok, Err}
 use Rattle.sh_types.specs.declared.code.Function.{Function}
-use Rattle.sh_types.specs.declared.elf.Section.{Section}
-use Rattle.sh_types.specs.declared.elf.Symbol.{Symbol}
-use Rattle.sh_types.specs.declared.refusals.ElfFault.{ElfFault}
-use Rattle.sh_types.specs.declared.refusals.ElfFault.TheVariants as elf
-use Rattle.sh_types.specs.declared.refusals.LimitKind.TheVariants as kind
-use Rattle.sh_types.specs.declared.refusals.LoadFault.{LoadFault}
-use Rattle.sh_types.specs.declared.refusals.LoadFault.TheVariants as load
-use Rattle.sh_types.specs.declared.refusals.SplitFault.{SplitFault}
-use Rattle.sh_types.specs.declared.refusals.SplitFault.TheVariants as split
+use Rattle.sh_types.specs.declared.symbols.Section.{Section}
+use Rattle.sh_types.specs.declared.symbols.Symbol.{Symbol}
+use Rattle.elf_rules.specs.declared.refusals.ElfFault.{ElfFault}
+use Rattle.elf_rules.specs.declared.refusals.ElfFault.TheVariants as elf
+use Rattle.elf_rules.specs.declared.refusals.LimitKind.TheVariants as kind
+use Rattle.elf_rules.specs.declared.refusals.LoadFault.{LoadFault}
+use Rattle.elf_rules.specs.declared.refusals.LoadFault.TheVariants as load
+use Rattle.elf_rules.specs.declared.refusals.SplitFault.{SplitFault}
+use Rattle.elf_rules.specs.declared.refusals.SplitFault.TheVariants as split
 use Rattle.guest_image.specs.declared.accepted.AcceptedFile.{AcceptedFile}
-use Rattle.sh_types.specs.Accepted.{above, by_rule, by_split, code_by, mapped_by, or_later}
-use Rattle.sh_types.specs.Elf.{entry_of, sections_of, segments_of, symbols_of}
-use Rattle.sh_types.specs.ElfRules.{IsReadFrom, first_failing, symbol_rules}
-use Rattle.sh_types.specs.Splitting.{split_refusal, functions_of}
+use Rattle.elf_rules.specs.Accepted.{above, by_rule, by_split, code_by, mapped_by, or_later}
+use Rattle.elf_rules.specs.Elf.{entry_of, sections_of, segments_of, symbols_of}
+use Rattle.elf_rules.specs.ElfRules.{IsReadFrom, first_failing, symbol_rules}
+use Rattle.elf_rules.specs.Splitting.{split_refusal, functions_of}
 
 -- ---- faults of the layers below
 

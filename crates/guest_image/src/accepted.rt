@@ -1,18 +1,19 @@
 //! The order in which a file is refused, and what an accepted file gives.
 ghost use Rattle.std.specs.Prelude.{◌≡◌, ◌≤◌, All, IsTrue, None, length};
 ghost use Rattle.std.specs.List.{list_any};
-ghost use Rattle.sh_types.specs.Accepted.{by_rule, by_split, refusal_of};
-ghost use Rattle.sh_types.specs.Elf.{entry_of, sections_of, symbols_of};
-ghost use Rattle.sh_types.specs.ElfRules.{IsReadFrom, first_failing, runs_at, symbol_rules, table_rules};
-ghost use Rattle.sh_types.specs.Splitting.{IsBounded, functions_of, split_refusal};
+ghost use Rattle.elf_rules.specs.Accepted.{by_rule, by_split, refusal_of};
+ghost use Rattle.elf_rules.specs.Elf.{entry_of, sections_of, symbols_of};
+ghost use Rattle.elf_rules.specs.ElfRules.{IsReadFrom, first_failing, runs_at, symbol_rules, table_rules};
+ghost use Rattle.elf_rules.specs.Splitting.{IsBounded, functions_of, split_refusal};
 ghost use Rattle.guest_image.specs.Stages.{AreFunctions, IsAccepted, Passes, elf_fault, function_refusal, limit_refusal, split_fault, symbol_refusal};
 
 use crate::limits::{limited_code, limited_functions, limited_memory};
 use elf_read::read_elf;
+use elf_rules::{Elf, ElfFault, LoadFault, SplitFault};
 use elf_symbols::symbols;
 use fn_split::split;
 use load_law::{entries_lie_in_code, sections_are_bounded, segments_lie_in_files};
-use sh_types::{Elf, ElfFault, Function, Items, LoadFault, SplitFault, Symbol};
+use sh_types::{Function, Items, Symbol};
 use std::alloc::Global;
 
 /// The tables and the functions of an accepted file.

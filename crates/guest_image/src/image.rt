@@ -1,7 +1,7 @@
 //! The image of an accepted file.
 ghost use Rattle.std.specs.Prelude.{◌≡◌, ◌≤◌, IfOk, length, unwrap_or};
-ghost use Rattle.sh_types.specs.Accepted.{codes_in_order, file_regions, loaded_image};
-ghost use Rattle.sh_types.specs.ElfRules.{IsReadFrom};
+ghost use Rattle.elf_rules.specs.Accepted.{codes_in_order, file_regions, loaded_image};
+ghost use Rattle.elf_rules.specs.ElfRules.{IsReadFrom};
 ghost use Rattle.sh_types.specs.Image.{number_of, starts_of};
 ghost use Rattle.guest_image.specs.Order.{AreApart};
 ghost use Rattle.guest_image.specs.Stages.{IsAccepted};
@@ -10,10 +10,11 @@ use crate::accepted::AcceptedFile;
 use crate::order::{codes_in_order, filled_in_order};
 use crate::regions::all_regions;
 use crate::words::all_words;
+use elf_rules::{Elf, Head};
 use load_law::{
     codes_are_apart, function_words_lie_in_files, sections_are_bounded, segments_lie_in_files,
 };
-use sh_types::{Elf, Function, Head, Image, Items, Region};
+use sh_types::{Function, Image, Items, Region};
 use std::alloc::{AllocError, Global};
 
 /// The number of the function at the entry.
@@ -28,7 +29,7 @@ fn entry_number(functions: &[Function], entry: u64) -> u32
 }
 
 /// The readable bytes of a file, by its sections with code in order.
-#[tactic(auto, unfolding(sh_types::specs::Accepted::file_regions))]
+#[tactic(auto, unfolding(elf_rules::specs::Accepted::file_regions))]
 fn file_regions(
     alloc: Global,
     bytes: &[u8],

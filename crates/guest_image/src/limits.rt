@@ -1,10 +1,11 @@
 //! What is limited, and the answer where there is more.
 ghost use Rattle.std.specs.Prelude.{◌≡◌, ◌≤◌, ◌<◌, ◌^◌, ⊤, length};
-ghost use Rattle.sh_types.specs.declared.refusals.LimitKind.TheVariants as kind;
-ghost use Rattle.sh_types.specs.Accepted.{above, code_by, mapped_by};
+ghost use Rattle.elf_rules.specs.declared.refusals.LimitKind.TheVariants as kind;
+ghost use Rattle.elf_rules.specs.Accepted.{above, code_by, mapped_by};
 ghost use Rattle.guest_image.specs.Stages.{Passes};
 
-use sh_types::{Function, LimitKind, LoadFault, Segment};
+use elf_rules::{LimitKind, LoadFault, Segment};
+use sh_types::Function;
 
 /// The most bytes of the PT_LOAD segments in memory.
 const MOST_MAPPED: u64 = 67_108_864;

@@ -1,12 +1,13 @@
 //! A file becomes an image.
 ghost use Rattle.std.specs.Prelude.{IfOk};
-ghost use Rattle.sh_types.specs.Accepted.{Loads, loaded_image, refusal_of};
-ghost use Rattle.sh_types.specs.Coded.{IsCoded};
+ghost use Rattle.elf_rules.specs.Accepted.{Loads, loaded_image, refusal_of};
+ghost use Rattle.elf_rules.specs.Coded.{IsCoded};
 
 use crate::accepted::accepted;
 use crate::image::image_of;
+use elf_rules::LoadFault;
 use load_law::accepted_images_are_coded;
-use sh_types::{Image, LoadFault};
+use sh_types::Image;
 use std::alloc::Global;
 use std::thread::Threads;
 

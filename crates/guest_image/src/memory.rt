@@ -1,11 +1,12 @@
 //! How much memory an accepted file takes.
 ghost use Rattle.std.specs.Prelude.{◌≡◌, IfOk};
-ghost use Rattle.sh_types.specs.Accepted.{Accepts, mapped_by};
-ghost use Rattle.sh_types.specs.Elf.{segments_of};
+ghost use Rattle.elf_rules.specs.Accepted.{Accepts, mapped_by};
+ghost use Rattle.elf_rules.specs.Elf.{segments_of};
 
 use crate::limits::mapped_by;
 use elf_read::read_elf;
-use sh_types::{ElfFault, NoMemory};
+use elf_rules::ElfFault;
+use sh_types::NoMemory;
 use std::alloc::Global;
 
 /// The bytes of an accepted file's PT_LOAD segments in memory (System V gABI, "Program Header": p_memsz). Err only

@@ -1,43 +1,23 @@
 //! Segments and sections by rising addresses.
 ghost use Rattle.std.specs.Prelude.{◌≡◌, ◌+◌, ◌<◌, ◌≤◌, ◌^◌, ℕ, All, IfOk, filter, length, slice_index_or, true};
 ghost use Rattle.std.specs.List.Sorted.{IsNonDecreasingBy};
-ghost use Rattle.sh_types.specs.declared.elf.Head.{Head};
-ghost use Rattle.sh_types.specs.declared.elf.Segment.{Segment};
-ghost use Rattle.sh_types.specs.Accepted.{codes_within, file_place, is_inside, rising_by, section_with};
-ghost use Rattle.sh_types.specs.Elf as elf;
-ghost use Rattle.sh_types.specs.ElfRules.{has_memory};
+ghost use Rattle.elf_rules.specs.declared.elf.Head.{Head};
+ghost use Rattle.elf_rules.specs.declared.elf.Segment.{Segment};
+ghost use Rattle.elf_rules.specs.Accepted.{codes_within, file_place, is_inside, rising_by, section_with};
+ghost use Rattle.elf_rules.specs.Elf as elf;
+ghost use Rattle.elf_rules.specs.ElfRules.{has_memory};
 ghost use Rattle.guest_image.specs.Order.{AreApart, StartsFrom};
 
-use sh_types::{Head, Segment};
+use elf_rules::{Head, Segment, is_code, with_memory};
 use std::alloc::{AllocError, Global};
-
-const SHF_ALLOC: u64 = 2;
-
-const SHF_EXECINSTR: u64 = 4;
-
-fn filled(alloc: Global, segments: &[Segment]) -> Result<Vec<Segment>, AllocError>
-    ensures { IfOk result (λ found. found.items ≡ filter has_memory segments.now) }
-{
-    segments
-        .iter()
-        .filter(|segment| segment.size > 0)
-        .copied()
-        .collect(alloc)
-}
 
 /// The segments with memory, by rising addresses.
 pub fn filled_in_order(alloc: Global, segments: &[Segment]) -> Result<Vec<Segment>, AllocError>
     ensures { IfOk result (λ found. found.items ≡ rising_by (λ (g : Segment). g.start) (filter has_memory segments.now)) }
 {
-    let mut found = filled(alloc, segments)?;
+    let mut found = with_memory(alloc, segments)?;
     found.sort_by_key(|segment| segment.start)?;
     Ok(found)
-}
-
-fn is_code(head: &Head) -> bool
-    ensures { result ≡ elf.is_code head.now }
-{
-    head.flags & SHF_ALLOC != 0 && head.flags & SHF_EXECINSTR != 0 && head.size != 0
 }
 
 fn codes(alloc: Global, heads: &[Head]) -> Result<Vec<Head>, AllocError>

@@ -2,20 +2,21 @@
 ghost use Rattle.std.specs.Prelude.{◌≡◌, ◌∷◌, ◌++◌, [], ◌<◌, ◌≤◌, All, IfOk, OnOk, replicate};
 ghost use Rattle.std.specs.List.Sorted.{IsNonDecreasingBy};
 ghost use Rattle.load_law.specs.Placed.{IsPlaced};
-ghost use Rattle.sh_types.specs.declared.elf.Head.{Head};
-ghost use Rattle.sh_types.specs.Accepted.{data_regions, piece, pieces, segment_bytes};
+ghost use Rattle.elf_rules.specs.declared.elf.Head.{Head};
+ghost use Rattle.elf_rules.specs.Accepted.{data_regions, piece, pieces, segment_bytes};
 ghost use Rattle.sh_types.specs.Image.{first_stack};
 ghost use Rattle.guest_image.specs.Order.{EndsLow, StartsFrom};
 
 use crate::order::codes_within;
-use sh_types::{Bytes, Head, Region, Segment};
+use elf_rules::{Head, Segment};
+use sh_types::{Bytes, Region};
 use std::alloc::{AllocError, Global};
 
 /// The size of the first stack, in bytes.
 const STACK_SIZE: usize = 0x10_0000;
 
 /// The bytes of a segment from one address up to another: those of the file, and zeros behind them.
-#[tactic(auto, unfolding(sh_types::specs::Accepted::segment_bytes))]
+#[tactic(auto, unfolding(elf_rules::specs::Accepted::segment_bytes))]
 fn segment_bytes(
     alloc: Global,
     bytes: &[u8],

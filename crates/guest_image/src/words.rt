@@ -1,13 +1,14 @@
 //! The words of functions, as they stand in the file.
 ghost use Rattle.std.specs.Prelude.{◌≡◌, ◌+◌, ◌*◌, ◌≤◌, All, IfOk, length, map};
 ghost use Rattle.load_law.specs.Placed.{HasWords};
-ghost use Rattle.sh_types.specs.Accepted.{codes_in_order, function_words};
-ghost use Rattle.sh_types.specs.Elf.{number_at, places};
+ghost use Rattle.elf_rules.specs.Accepted.{codes_in_order, function_words};
+ghost use Rattle.elf_rules.specs.Elf.{number_at, places};
 ghost use Rattle.guest_image.specs.Order.{AreApart};
 
 use crate::order::file_place;
 use elf_read::u32_at;
-use sh_types::{Function, Head, Items};
+use elf_rules::Head;
+use sh_types::{Function, Items};
 use std::alloc::{AllocError, Global};
 
 /// A number of 32-bit words from a place of the file on.
@@ -29,7 +30,7 @@ fn words_from(
     Ok(Items::from_vec(words))
 }
 
-#[tactic(auto, unfolding(sh_types::specs::Accepted::function_words))]
+#[tactic(auto, unfolding(elf_rules::specs::Accepted::function_words))]
 fn function_words(
     alloc: Global,
     bytes: &[u8],

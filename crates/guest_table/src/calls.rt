@@ -1,12 +1,13 @@
 //! What the tests call of the library, over the first guest's file and under the seed of zeros.
 ghost use Rattle.std.specs.Prelude.{◌≡◌, Some, IfOk, IfSome};
-ghost use Rattle.sh_types.specs.Runnable.{IsRunnable};
-ghost use Rattle.sh_types.specs.Thin.{thin_image};
+ghost use Rattle.sh_machines.specs.Runnable.{IsRunnable};
+ghost use Rattle.elf_rules.specs.Thin.{thin_image};
 
+use elf_rules::LoadFault;
 use elf_table::patches::first_file;
 use guest_image::load_image;
 use sh_base::{MemFiles, MemSink};
-use sh_types::{Bytes, FetchLog, Image, Items, LoadFault, Name, NoMemory};
+use sh_types::{Bytes, FetchLog, Image, Items, Name, NoMemory};
 use shuf_cli::{Done, serial_command};
 use shuf_machine::{Machine, MachineNo, Origin};
 use std::alloc::{AllocError, Global};
@@ -15,7 +16,7 @@ use thin_image::classify;
 use thin_law::thin_images_are_fine;
 
 /// The image of the file with these bytes; None where the file is refused or is not thin.
-#[tactic(auto, unfolding(sh_types::specs::Thin::thin_image))]
+#[tactic(auto, unfolding(elf_rules::specs::Thin::thin_image))]
 fn read_thin<R: Threads + Sync>(
     rt: &R,
     alloc: Global,

@@ -5,12 +5,12 @@ use Rattle.std.proofs.lemmas.Bool.Decides.{nat_tests}
 use Rattle.sh_types.specs.declared.code.Image.{Image}
 use Rattle.sh_types.specs.declared.code.Region.{Region}
 use Rattle.sh_types.specs.declared.runs.Stored.{Stored}
-use Rattle.sh_types.specs.Environment.{CallDid, Answers, Reads, Starts, ExitsHart, ExitsRun, LeaksWord, Request, read_call, write_call, written_from, start_at, ended_call, answer, failure, call_of}
-use Rattle.sh_types.specs.Memory.{bytes_from, readable}
-use Rattle.sh_types.specs.Need.{Outcome, Goes, Puts, Calls, Quits, Traps, Leaks, answered, stored_at}
-use Rattle.sh_types.specs.Serial.{is_call, thread_calls, calls_next, further, run_length}
-use Rattle.sh_types.specs.Tokens.{row_named}
-use Rattle.sh_types.specs.Unmoved.{Thread, Content, thread_needs, thread_loses, threads_lose, set_thread, ended_thread, Unmoved, then_leaves, then_call, thread_asks, any_alive, goes_still, is_alive, can_go, on_thread, unmoved_step, unmoved_from, unmoved_start, first_thread}
+use Rattle.sh_machines.specs.Environment.{CallDid, Answers, Reads, Starts, ExitsHart, ExitsRun, LeaksWord, Request, read_call, write_call, written_from, start_at, ended_call, answer, failure, call_of}
+use Rattle.sh_machines.specs.Memory.{bytes_from, readable}
+use Rattle.sh_machines.specs.Need.{Outcome, Goes, Puts, Calls, Quits, Traps, Leaks, answered, stored_at}
+use Rattle.sh_machines.specs.Serial.{is_call, thread_calls, calls_next, further, run_length}
+use Rattle.sh_machines.specs.Tokens.{row_named}
+use Rattle.sh_machines.specs.Unmoved.{Thread, Content, thread_needs, thread_loses, threads_lose, set_thread, ended_thread, Unmoved, then_leaves, then_call, thread_asks, any_alive, goes_still, is_alive, can_go, on_thread, unmoved_step, unmoved_from, unmoved_start, first_thread}
 use Rattle.pace_law.proofs.Alive.{StillLive, step_live, start_live}
 use Rattle.hart_runner.specs.Built.{call_number, is_built_call, comes_to_other}
 use Rattle.hart_runner.specs.First.{IsAlone}

@@ -6,13 +6,13 @@ use Rattle.sh_types.specs.declared.runs.Event.{Event}
 use Rattle.sh_types.specs.declared.runs.Event.TheVariants.{Run, Migrate, Publish, Erase}
 use Rattle.sh_types.specs.declared.runs.Hart.{Hart}
 use Rattle.sh_types.specs.declared.runs.Stored.{Stored}
-use Rattle.sh_types.specs.Environment.{CallDid, Answers, Reads, Starts, ExitsHart, ExitsRun, LeaksWord, call_of}
-use Rattle.sh_types.specs.Event.{instructions, migrated, migrate, is_off, after_event, is_allowed, shuffled_from, IsLegalFrom, state_after, IsLegalIn, written}
-use Rattle.sh_types.specs.Fine.{IsSetting}
-use Rattle.sh_types.specs.Need.{Outcome, Goes, Puts, Calls, Quits, Traps, Leaks, stored_at, kept_from}
-use Rattle.sh_types.specs.Pace.{Pace, without, is_among, paced_on, followed, keeps_pace, all_keep, opening_pace, pace_after, IsPaced}
-use Rattle.sh_types.specs.Shuffled.{Setting, Owned, Shuffled, set_hart, hart_loses, harts_lose, reserves_on, after_call, hart_asks, after, moved_of, on_hart, shuffled_step, shuffled_start}
-use Rattle.sh_types.specs.Unmoved.{Thread, Unmoved, goes_still, is_alive, unmoved_from, unmoved_start}
+use Rattle.sh_machines.specs.Environment.{CallDid, Answers, Reads, Starts, ExitsHart, ExitsRun, LeaksWord, call_of}
+use Rattle.sh_machines.specs.Event.{instructions, migrated, migrate, is_off, after_event, is_allowed, shuffled_from, IsLegalFrom, state_after, IsLegalIn, written}
+use Rattle.sh_machines.specs.Fine.{IsSetting}
+use Rattle.sh_machines.specs.Need.{Outcome, Goes, Puts, Calls, Quits, Traps, Leaks, stored_at, kept_from}
+use Rattle.sh_machines.specs.Pace.{Pace, without, is_among, paced_on, followed, keeps_pace, all_keep, opening_pace, pace_after, IsPaced}
+use Rattle.sh_machines.specs.Shuffled.{Setting, Owned, Shuffled, set_hart, hart_loses, harts_lose, reserves_on, after_call, hart_asks, after, moved_of, on_hart, shuffled_step, shuffled_start}
+use Rattle.sh_machines.specs.Unmoved.{Thread, Unmoved, goes_still, is_alive, unmoved_from, unmoved_start}
 use Rattle.sh_law.specs.Sound.{Stays, IsOn}
 use Rattle.sh_law.proofs.Ciphers.{is_cipher}
 use Rattle.sh_law.proofs.Lists.{and_first, and_second, not_true, eq_of, GetStands, get_stands, get_map, get_before, get_on, OptionOn}

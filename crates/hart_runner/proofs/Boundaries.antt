@@ -5,9 +5,9 @@ use Rattle.std.proofs.lemmas.Bool.Decides.{nat_tests}
 use Rattle.sh_types.specs.declared.code.Image.{Image}
 use Rattle.sh_types.specs.declared.runs.Event.{Event}
 use Rattle.sh_types.specs.declared.runs.Event.TheVariants.{Migrate, Publish, Erase}
-use Rattle.sh_types.specs.Pace.{Pace, live_from, without, paced_on, all_keep, opening_pace, pace_after, IsPaced}
-use Rattle.sh_types.specs.Serial.{migrations, cleared_away, publication, boundary, is_due, ready}
-use Rattle.sh_types.specs.Unmoved.{goes_still}
+use Rattle.sh_machines.specs.Pace.{Pace, live_from, without, paced_on, all_keep, opening_pace, pace_after, IsPaced}
+use Rattle.sh_machines.specs.Serial.{migrations, cleared_away, publication, boundary, is_due, ready}
+use Rattle.sh_machines.specs.Unmoved.{goes_still}
 use Rattle.pace_law.specs.Step.{InStep}
 use Rattle.sh_law.proofs.Prefixes.{keep_append}
 use Rattle.pace_law.proofs.Serials.{with_behind, without_first, all_move, moves_keep, cleared_follows, cleared_keeps, due_now}

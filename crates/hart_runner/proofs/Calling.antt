@@ -11,26 +11,26 @@ use Rattle.sh_types.specs.declared.code.FrameState.{FrameState}
 use Rattle.sh_types.specs.declared.code.Site.{Site}
 use Rattle.sh_types.specs.declared.code.Site.TheVariants.{Plain, Literal, InnerJump, InnerBranch, DirectCall, DirectTail, IndirectCall, IndirectTail, ReturnLike, Environment, Stop}
 use Rattle.sh_types.specs.declared.code.Site.TheVariants as site
-use Rattle.sh_types.specs.declared.instructions.Instr.{Instr}
+use Rattle.rv_table.specs.declared.instructions.Instr.{Instr}
 use Rattle.sh_types.specs.declared.runs.Hart.{Hart}
 use Rattle.sh_types.specs.declared.runs.Trap.{Trap}
 use Rattle.sh_types.specs.declared.runs.Trap.TheVariants as trap
-use Rattle.sh_types.specs.Copy.{saves, restores}
-use Rattle.sh_types.specs.Decoding.{decoded}
-use Rattle.sh_types.specs.Fine.{IsFine, IsSetting, SiteFits}
+use Rattle.sh_machines.specs.Copy.{saves, restores}
+use Rattle.rv_table.specs.Decoding.{decoded}
+use Rattle.sh_machines.specs.Fine.{IsFine, IsSetting, SiteFits}
 use Rattle.sh_types.specs.Image.{sizes_of, word_at, site_at, row_at}
-use Rattle.sh_types.specs.Kind.{Kind, Sets, Computes, Passes, Loads, Stores, Atomics, Saves, Restores, CallsTo, JumpsTo, Branches, CallsThrough, JumpsThrough, GoesBack, Asks, Breaks, Illegal, Past, opcode_of, is_system, plain_kind, framed_kind, word_kind, kind_at}
-use Rattle.sh_types.specs.Arithmetic.{is_arithmetic}
-use Rattle.sh_types.specs.Memory.{readable, writable}
-use Rattle.sh_types.specs.Need.{Outcome, Traps, Leaks, Need, Makes, Touches, answered, touching, plus_imm, is_held}
-use Rattle.sh_types.specs.Operands.{reads_ra, both_ra, width_of, is_lr, is_sc}
-use Rattle.sh_types.specs.Tokens.{jump_number}
+use Rattle.sh_machines.specs.Kind.{Kind, Sets, Computes, Passes, Loads, Stores, Atomics, Saves, Restores, CallsTo, JumpsTo, Branches, CallsThrough, JumpsThrough, GoesBack, Asks, Breaks, Illegal, Past, opcode_of, is_system, plain_kind, framed_kind, word_kind, kind_at}
+use Rattle.rv_table.specs.Arithmetic.{is_arithmetic}
+use Rattle.sh_machines.specs.Memory.{readable, writable}
+use Rattle.sh_machines.specs.Need.{Outcome, Traps, Leaks, Need, Makes, Touches, answered, touching, is_held}
+use Rattle.rv_table.specs.Operands.{plus_imm, reads_ra, both_ra, width_of, is_lr, is_sc}
+use Rattle.sh_machines.specs.Tokens.{jump_number}
 use Rattle.sh_types.specs.Place.{IsPair, whose_of}
-use Rattle.sh_types.specs.Serial.{is_call, thread_calls, calls_next}
-use Rattle.sh_types.specs.Unmoved.{Thread, Content, Number, Return, thread_does, thread_needs, load_content, store_content, reserve_content, store_if, amo_content, atomic_content, save_content, take_content, save_by, back_to, call_by, jump_by, is_return, Unmoved}
-use Rattle.sh_types.specs.Chain.{Sound}
-use Rattle.sh_types.specs.Shuffled.{Setting, Shuffled}
-use Rattle.sh_types.specs.StandsFor.{RunsAs, HartStands, HartsStand}
+use Rattle.sh_machines.specs.Serial.{is_call, thread_calls, calls_next}
+use Rattle.sh_machines.specs.Unmoved.{Thread, Content, Number, Return, thread_does, thread_needs, load_content, store_content, reserve_content, store_if, amo_content, atomic_content, save_content, take_content, save_by, back_to, call_by, jump_by, is_return, Unmoved}
+use Rattle.sh_machines.specs.Chain.{Sound}
+use Rattle.sh_machines.specs.Shuffled.{Setting, Shuffled}
+use Rattle.sh_machines.specs.StandsFor.{RunsAs, HartStands, HartsStand}
 use Rattle.sh_types.proofs.Placing.{whose_place}
 use Rattle.sh_law.specs.Sound.{Stays}
 use Rattle.hart_runner.specs.Built.{call_number, is_built_call, comes_to_other, is_environment, other_at}

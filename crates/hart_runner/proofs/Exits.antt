@@ -3,8 +3,8 @@ use Rattle.std.proofs.Common.{◌≡◌, ℕ, zero, suc, ◌-◌, ◌≤◌, Boo
 use Rattle.std.specs.Prelude.{not, ◌&&◌, if◌then◌else◌}
 use Rattle.sh_types.specs.declared.code.Image.{Image}
 use Rattle.sh_types.specs.declared.runs.End.{End}
-use Rattle.sh_types.specs.Serial.{calls_next, further, run_length}
-use Rattle.sh_types.specs.Unmoved.{Unmoved, goes_still, can_go, unmoved_step, unmoved_from}
+use Rattle.sh_machines.specs.Serial.{calls_next, further, run_length}
+use Rattle.sh_machines.specs.Unmoved.{Unmoved, goes_still, can_go, unmoved_step, unmoved_from}
 use Rattle.hart_runner.specs.Built.{comes_to_other, exits_or, exits_within}
 use Rattle.hart_runner.proofs.Tests.{and_first, and_second, none_of, no_call}
 

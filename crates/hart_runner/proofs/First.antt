@@ -7,9 +7,9 @@ use Rattle.sh_types.specs.declared.code.Image.{Image}
 use Rattle.sh_types.specs.declared.runs.End.{End}
 use Rattle.sh_types.specs.declared.runs.Event.{Event}
 use Rattle.sh_types.specs.declared.runs.Event.TheVariants.{Run}
-use Rattle.sh_types.specs.Pace.{Pace, live_from, paced_on, pace_after}
-use Rattle.sh_types.specs.Serial.{Schedule, run_length, turn, migrations, is_done, is_due, ready, boundary, first_or, next_from, next_hart, turn_limit, serial_from, serial_list}
-use Rattle.sh_types.specs.Unmoved.{Unmoved, goes_still, is_alive, can_go, unmoved_from, unmoved_start}
+use Rattle.sh_machines.specs.Pace.{Pace, live_from, paced_on, pace_after}
+use Rattle.sh_machines.specs.Serial.{Schedule, run_length, turn, migrations, is_done, is_due, ready, boundary, first_or, next_from, next_hart, turn_limit, serial_from, serial_list}
+use Rattle.sh_machines.specs.Unmoved.{Unmoved, goes_still, is_alive, can_go, unmoved_from, unmoved_start}
 use Rattle.pace_law.specs.Step.{InStep}
 use Rattle.pace_law.proofs.Length.{length_few}
 use Rattle.shuf_machine.specs.declared.answers.Origin.{Origin}

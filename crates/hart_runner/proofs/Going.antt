@@ -5,12 +5,12 @@ use Rattle.std.proofs.lemmas.Bool.Decides.{nat_tests}
 use Rattle.sh_types.specs.declared.code.Image.{Image}
 use Rattle.sh_types.specs.declared.layouts.Layout.{Layout}
 use Rattle.sh_types.specs.declared.runs.Hart.{Hart}
-use Rattle.sh_types.specs.Event.{can_run, is_live}
-use Rattle.sh_types.specs.Fine.{IsSetting}
+use Rattle.sh_machines.specs.Event.{can_run, is_live}
+use Rattle.sh_machines.specs.Fine.{IsSetting}
 use Rattle.sh_types.specs.Place.{whose_of}
-use Rattle.sh_types.specs.Shuffled.{Setting, Shuffled}
-use Rattle.sh_types.specs.StandsFor.{StandsFor}
-use Rattle.sh_types.specs.Unmoved.{Thread, Unmoved, goes_still, is_alive, can_go}
+use Rattle.sh_machines.specs.Shuffled.{Setting, Shuffled}
+use Rattle.sh_machines.specs.StandsFor.{StandsFor}
+use Rattle.sh_machines.specs.Unmoved.{Thread, Unmoved, goes_still, is_alive, can_go}
 use Rattle.sh_law.specs.Sound.{Stays}
 use Rattle.sh_law.proofs.Lists.{GetStands, get_stands}
 use Rattle.shuf_machine.specs.declared.answers.MachineNo.{MachineNo}

@@ -4,12 +4,12 @@ use Rattle.std.specs.Prelude.{if◌then◌else◌, cond, slice_get}
 use Rattle.std.specs.List.{position_from}
 use Rattle.std.proofs.lemmas.Bool.Decides.{nat_tests}
 use Rattle.sh_types.specs.declared.runs.Hart.{Hart}
-use Rattle.sh_types.specs.Event.{is_off}
-use Rattle.sh_types.specs.Fine.{IsSetting}
-use Rattle.sh_types.specs.Pace.{Pace, is_among}
-use Rattle.sh_types.specs.Shuffled.{Shuffled}
-use Rattle.sh_types.specs.StandsFor.{StandsFor}
-use Rattle.sh_types.specs.Unmoved.{Unmoved, goes_still}
+use Rattle.sh_machines.specs.Event.{is_off}
+use Rattle.sh_machines.specs.Fine.{IsSetting}
+use Rattle.sh_machines.specs.Pace.{Pace, is_among}
+use Rattle.sh_machines.specs.Shuffled.{Shuffled}
+use Rattle.sh_machines.specs.StandsFor.{StandsFor}
+use Rattle.sh_machines.specs.Unmoved.{Unmoved, goes_still}
 use Rattle.sh_law.specs.Paced.{AreOn, StandsPaced}
 use Rattle.sh_law.proofs.Ciphers.{is_cipher}
 use Rattle.sh_law.proofs.Pacing.{paced_stands}

@@ -2,9 +2,9 @@
 use Rattle.std.proofs.Common.{◌≡◌, ℕ, zero, suc, ◌+◌, ◌==◌, ◌<◌, ◌≤◌, nat_lt, Bool, true, false, List, [], ◌∷◌, refl, sym, ap, ◌∙◌, arith}
 use Rattle.std.specs.Prelude.{nat_le, if◌then◌else◌, slice_get}
 use Rattle.std.proofs.lemmas.Bool.Decides.{nat_tests}
-use Rattle.sh_types.specs.Pace.{live_from, without, is_among}
-use Rattle.sh_types.specs.Serial.{first_or, next_from}
-use Rattle.sh_types.specs.Unmoved.{Thread, is_alive}
+use Rattle.sh_machines.specs.Pace.{live_from, without, is_among}
+use Rattle.sh_machines.specs.Serial.{first_or, next_from}
+use Rattle.sh_machines.specs.Unmoved.{Thread, is_alive}
 
 -- the number is below each of the list
 abbrev pub Below : ℕ → List ℕ → Type 0

@@ -5,9 +5,9 @@ use Rattle.std.proofs.lemmas.Bool.Decides.{nat_tests}
 use Rattle.sh_types.specs.declared.code.Image.{Image}
 use Rattle.sh_types.specs.declared.runs.Event.{Event}
 use Rattle.sh_types.specs.declared.runs.Event.TheVariants.{Run}
-use Rattle.sh_types.specs.Pace.{Pace, paced_on, followed}
-use Rattle.sh_types.specs.Serial.{Schedule, run_length, turn, turn_in, ready, next_hart, turn_limit, is_done, serial_in, serial_from}
-use Rattle.sh_types.specs.Unmoved.{goes_still, can_go}
+use Rattle.sh_machines.specs.Pace.{Pace, paced_on, followed}
+use Rattle.sh_machines.specs.Serial.{Schedule, run_length, turn, turn_in, ready, next_hart, turn_limit, is_done, serial_in, serial_from}
+use Rattle.sh_machines.specs.Unmoved.{goes_still, can_go}
 use Rattle.pace_law.specs.Step.{InStep}
 use Rattle.pace_law.proofs.Length.{length_few, length_some}
 use Rattle.pace_law.proofs.Serials.{turn_goes, ready_goes, after_turn, turn_short, turn_few, turn_is, Readied, Turned}

@@ -1,10 +1,10 @@
 -- The serial order from where a machine stands: what is still to come, and that the journal keeps pace.
 use Rattle.std.proofs.Common.{◌≡◌, ℕ, ◌+◌, ◌-◌, ◌*◌, ◌^◌, ◌≤◌, ◌<◌, true, false, List, sym, ap, ◌∙◌, subst, arith, mul-le-mul_right}
 use Rattle.sh_types.specs.declared.runs.Event.{Event}
-use Rattle.sh_types.specs.Fine.{IsSetting}
-use Rattle.sh_types.specs.Pace.{all_keep, IsPaced}
-use Rattle.sh_types.specs.Serial.{Schedule, turn, ready, next_hart, turn_limit, is_done, serial_from}
-use Rattle.sh_types.specs.Unmoved.{Unmoved, goes_still, can_go}
+use Rattle.sh_machines.specs.Fine.{IsSetting}
+use Rattle.sh_machines.specs.Pace.{all_keep, IsPaced}
+use Rattle.sh_machines.specs.Serial.{Schedule, turn, ready, next_hart, turn_limit, is_done, serial_from}
+use Rattle.sh_machines.specs.Unmoved.{Unmoved, goes_still, can_go}
 use Rattle.sh_law.specs.Paced.{StandsPaced}
 use Rattle.sh_law.proofs.Ciphers.{is_cipher}
 use Rattle.sh_law.proofs.Pacing.{paced_stands}

@@ -1,7 +1,7 @@
 -- How what is still to come of a list of events shrinks.
 use Rattle.std.proofs.Common.{◌≡◌, List, [], ◌∷◌, ◌++◌, Result, Ok, Err, OnOk, OnErr, refl, sym, ap, ◌∙◌, subst, append_assoc, append-nil}
 use Rattle.sh_types.specs.declared.runs.Event.{Event}
-use Rattle.sh_types.specs.Pace.{paced_on, followed}
+use Rattle.sh_machines.specs.Pace.{paced_on, followed}
 use Rattle.sh_law.proofs.Prefixes.{pace_more}
 use Rattle.shuf_machine.specs.declared.answers.Origin.{Origin}
 use Rattle.shuf_machine.specs.Past.{Past}

@@ -3,8 +3,8 @@ use Rattle.std.proofs.Common.{◌≡◌, Bool, true, false, Option, Some, None, 
 use Rattle.std.specs.Prelude.{◌&&◌, not}
 use Rattle.sh_types.specs.declared.code.Image.{Image}
 use Rattle.sh_types.specs.declared.runs.End.{End}
-use Rattle.sh_types.specs.Serial.{calls_next}
-use Rattle.sh_types.specs.Unmoved.{Unmoved, goes_still}
+use Rattle.sh_machines.specs.Serial.{calls_next}
+use Rattle.sh_machines.specs.Unmoved.{Unmoved, goes_still}
 use Rattle.hart_runner.specs.Built.{comes_to_other}
 
 pub and_first : (a b : Bool) → (a && b) ≡ true → a ≡ true

@@ -5,9 +5,9 @@ use Rattle.std.proofs.lemmas.Bool.Decides.{nat_tests}
 use Rattle.sh_types.specs.declared.code.Image.{Image}
 use Rattle.sh_types.specs.declared.runs.Event.{Event}
 use Rattle.sh_types.specs.declared.runs.Event.TheVariants.{Run}
-use Rattle.sh_types.specs.Pace.{Pace, paced_on}
-use Rattle.sh_types.specs.Serial.{run_length, turn, turn_in}
-use Rattle.sh_types.specs.Unmoved.{can_go}
+use Rattle.sh_machines.specs.Pace.{Pace, paced_on}
+use Rattle.sh_machines.specs.Serial.{run_length, turn, turn_in}
+use Rattle.sh_machines.specs.Unmoved.{can_go}
 use Rattle.pace_law.proofs.Bools.{both_true}
 use Rattle.pace_law.proofs.Length.{length_few, length_some}
 use Rattle.shuf_machine.specs.Past.{Past}

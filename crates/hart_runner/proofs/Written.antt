@@ -3,9 +3,9 @@ use Rattle.std.proofs.Common.{◌≡◌, ℕ, zero, suc, ◌+◌, List, [], ◌�
 use Rattle.sh_types.specs.declared.code.Image.{Image}
 use Rattle.sh_types.specs.declared.runs.Event.{Event}
 use Rattle.sh_types.specs.declared.runs.Event.TheVariants.{Run, Migrate, Publish, Erase}
-use Rattle.sh_types.specs.Event.{written}
-use Rattle.sh_types.specs.Pace.{Pace, followed, paced_on, opening_pace, pace_after}
-use Rattle.sh_types.specs.Unmoved.{unmoved_run}
+use Rattle.sh_machines.specs.Event.{written}
+use Rattle.sh_machines.specs.Pace.{Pace, followed, paced_on, opening_pace, pace_after}
+use Rattle.sh_machines.specs.Unmoved.{unmoved_run}
 use Rattle.sh_law.proofs.Pacing.{guest_is}
 
 run_long : (k n : ℕ) (ns : List ℕ) → length (replicate k n ++ ns) ≡ k + length ns

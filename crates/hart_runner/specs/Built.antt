@@ -8,8 +8,8 @@ use Rattle.sh_types.specs.declared.code.Site.TheVariants.{Plain, Literal, InnerJ
 use Rattle.sh_types.specs.declared.runs.End.{End}
 use Rattle.sh_types.specs.declared.runs.End.TheVariants.{Exit, Trapped, Leak}
 use Rattle.sh_types.specs.Image.{sizes_of, site_at}
-use Rattle.sh_types.specs.Serial.{calls_next}
-use Rattle.sh_types.specs.Unmoved.{Thread, Unmoved, unmoved_step, unmoved_start}
+use Rattle.sh_machines.specs.Serial.{calls_next}
+use Rattle.sh_machines.specs.Unmoved.{Thread, Unmoved, unmoved_step, unmoved_start}
 
 -- the number of the environment call that a thread's registers name, in a7 (x17)
 abbrev pub call_number : Option Thread → ℕ

@@ -1,8 +1,8 @@
 -- A run of the first hart up to the first publication.
 use Rattle.std.specs.Prelude.{◌≡◌, ℕ, ◌-◌, ◌≤◌, true, List, [], ◌∷◌}
 use Rattle.sh_types.specs.declared.code.Image.{Image}
-use Rattle.sh_types.specs.Pace.{Pace}
-use Rattle.sh_types.specs.Unmoved.{Thread, Unmoved, goes_still}
+use Rattle.sh_machines.specs.Pace.{Pace}
+use Rattle.sh_machines.specs.Unmoved.{Thread, Unmoved, goes_still}
 use Rattle.hart_runner.specs.Built.{is_built, exits_within}
 
 -- the first hart is the only one, and as long as the run goes on it is live

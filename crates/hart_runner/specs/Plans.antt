@@ -1,5 +1,5 @@
 -- The schedule of a plan.
-use Rattle.sh_types.specs.Serial.{Schedule}
+use Rattle.sh_machines.specs.Serial.{Schedule}
 use Rattle.hart_runner.specs.declared.plan.Plan.{Plan}
 
 abbrev pub schedule_of : Plan → Schedule

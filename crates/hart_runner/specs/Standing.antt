@@ -2,7 +2,7 @@
 use Rattle.std.specs.Prelude.{◌≡◌, ℕ, ◌*◌, ◌≤◌, Option, Some, None, List, [], ◌∷◌, ◌++◌}
 use Rattle.sh_types.specs.declared.code.Image.{Image}
 use Rattle.sh_types.specs.declared.runs.Event.{Event}
-use Rattle.sh_types.specs.Pace.{Pace, pace_after, IsPaced}
+use Rattle.sh_machines.specs.Pace.{Pace, pace_after, IsPaced}
 use Rattle.shuf_machine.specs.Past.{Past}
 use Rattle.shuf_machine.specs.Run.{image_of}
 

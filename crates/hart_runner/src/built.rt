@@ -1,7 +1,7 @@
 //! The run of a machine whose guest comes to an exit before the first publication.
 ghost use Rattle.std.specs.Prelude.{◌≡◌, ◌+◌, ◌<◌, ◌≤◌, ◌^◌, ◌⊎◌, [], IfOk, IsTrue, false, true};
-ghost use Rattle.sh_types.specs.Serial.{turn, serial_list};
-ghost use Rattle.sh_types.specs.Unmoved.{goes_still};
+ghost use Rattle.sh_machines.specs.Serial.{turn, serial_list};
+ghost use Rattle.sh_machines.specs.Unmoved.{goes_still};
 ghost use Rattle.shuf_machine.specs.Past.{guest_of};
 ghost use Rattle.shuf_machine.specs.Run.{image_of};
 ghost use Rattle.hart_runner.specs.Built.{is_built, exits_or};

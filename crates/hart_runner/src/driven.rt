@@ -2,8 +2,8 @@
 ghost use Rattle.std.specs.Prelude.{◌≡◌, ◌+◌, ◌<◌, ◌≤◌, ◌^◌, true, false, IfOk, OnErr};
 ghost use Rattle.sh_law.specs.Sound.{IsOn};
 ghost use Rattle.sh_types.specs.Place.{WellPlaced};
-ghost use Rattle.sh_types.specs.Serial.{run_length};
-ghost use Rattle.sh_types.specs.Unmoved.{goes_still, can_go};
+ghost use Rattle.sh_machines.specs.Serial.{run_length};
+ghost use Rattle.sh_machines.specs.Unmoved.{goes_still, can_go};
 ghost use Rattle.shuf_machine.specs.Past.{with_event, state_of};
 ghost use Rattle.shuf_machine.specs.Run.{setting_of};
 ghost use Rattle.hart_runner.specs.Built.{comes_to_other as comes_to_other_by, exits_or};

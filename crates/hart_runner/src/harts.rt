@@ -1,9 +1,9 @@
 //! Which harts can go, and whose turn is next.
 ghost use Rattle.std.specs.Prelude.{◌≡◌, ℕ, ◌<◌, ◌≤◌, true, false, IfSome, IfNone, slice_get};
 ghost use Rattle.std.specs.Option.{option_copied};
-ghost use Rattle.sh_types.specs.Event.{is_live as is_live_hart};
-ghost use Rattle.sh_types.specs.Serial.{next_hart as next_hart_of};
-ghost use Rattle.sh_types.specs.Unmoved.{goes_still, can_go, is_alive};
+ghost use Rattle.sh_machines.specs.Event.{is_live as is_live_hart};
+ghost use Rattle.sh_machines.specs.Serial.{next_hart as next_hart_of};
+ghost use Rattle.sh_machines.specs.Unmoved.{goes_still, can_go, is_alive};
 ghost use Rattle.hart_runner.specs.Standing.{pace_of};
 
 use crate::driven::goes_on;

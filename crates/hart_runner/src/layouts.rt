@@ -1,14 +1,13 @@
 //! The events on layouts of a machine whose journal keeps pace, as the serial order wants them.
 ghost use Rattle.std.specs.Prelude.{◌≡◌, ℕ, ◌+◌, ◌-◌, ◌<◌, ◌^◌, [], true, false, Some, OnOk, OnErr, slice_get};
 ghost use Rattle.std.specs.Option.{option_copied};
-ghost use Rattle.sh_types.specs.Event.{is_off};
-ghost use Rattle.sh_types.specs.Unmoved.{goes_still};
+ghost use Rattle.sh_machines.specs.Event.{is_off};
+ghost use Rattle.sh_machines.specs.Unmoved.{goes_still};
 ghost use Rattle.shuf_machine.specs.Past.{with_event, state_of};
 ghost use Rattle.hart_runner.specs.Standing.{pace_of, IsInPace, first_of};
 
-use guest_mem::Steps;
 use sh_law::instructions_are_counted;
-use sh_types::{Event, Hart, NoMemory};
+use sh_types::{Event, Hart, NoMemory, Steps};
 use shuf_machine::{Machine, MachineNo, machines_stand};
 use std::alloc::Global;
 use std::sync::ledger::Ledger;

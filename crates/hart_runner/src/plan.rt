@@ -1,6 +1,6 @@
 //! How a run is to go.
 ghost use Rattle.std.specs.Prelude.{◌≡◌, ◌≤◌};
-ghost use Rattle.sh_types.specs.Serial.{turn_limit};
+ghost use Rattle.sh_machines.specs.Serial.{turn_limit};
 ghost use Rattle.hart_runner.specs.Plans.{schedule_of};
 
 /// How a run is to go: instructions between publications, instructions in a turn at most, and in all, and threads.

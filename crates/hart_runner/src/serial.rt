@@ -1,8 +1,8 @@
 //! The serial order.
 ghost use Rattle.std.specs.Prelude.{◌≡◌, ◌+◌, ◌-◌, ◌<◌, ◌≤◌, ◌^◌, [], true, false, OnOk, OnErr};
-ghost use Rattle.sh_types.specs.Pace.{IsPaced, live_from};
-ghost use Rattle.sh_types.specs.Serial.{migrations, cleared_away, publication as publication_by, ready, turn, is_due as is_due_by, is_done as is_done_by, serial_from, serial_list};
-ghost use Rattle.sh_types.specs.Unmoved.{goes_still};
+ghost use Rattle.sh_machines.specs.Pace.{IsPaced, live_from};
+ghost use Rattle.sh_machines.specs.Serial.{migrations, cleared_away, publication as publication_by, ready, turn, is_due as is_due_by, is_done as is_done_by, serial_from, serial_list};
+ghost use Rattle.sh_machines.specs.Unmoved.{goes_still};
 ghost use Rattle.pace_law.specs.Step.{InStep};
 ghost use Rattle.shuf_machine.specs.Past.{state_of};
 ghost use Rattle.hart_runner.specs.Plans.{schedule_of};
@@ -12,8 +12,7 @@ use crate::driven::{count, goes_on, run};
 use crate::harts::{can_run, next_hart};
 use crate::layouts::{erase, has_older, migrate, newest, next_behind, publish};
 use crate::plan::{Plan, limit_at};
-use guest_mem::Steps;
-use sh_types::NoMemory;
+use sh_types::{NoMemory, Steps};
 use shuf_machine::{Machine, machines_stand};
 use std::alloc::Global;
 use std::sync::ledger::Ledger;

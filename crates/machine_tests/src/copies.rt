@@ -1,13 +1,14 @@
 //! The copy of the first guest under the seed of zeros. Its words are from an independent program.
 ghost use Rattle.std.specs.Prelude.{◌≡◌, Some, IfOk, IfSome};
 ghost use Rattle.sh_types.specs.Image.{sizes_of};
-ghost use Rattle.sh_types.specs.Runnable.{IsRunnable};
-ghost use Rattle.sh_types.specs.Thin.{thin_image};
+ghost use Rattle.sh_machines.specs.Runnable.{IsRunnable};
+ghost use Rattle.elf_rules.specs.Thin.{thin_image};
 
 use code_copier::copy;
+use elf_rules::LoadFault;
 use guest_image::load_image;
 use layout_maker::{layouts_are_well_placed, make_layout, recent_cells_are_counted};
-use sh_types::{CodeCopy, Image, LoadFault, NoMemory};
+use sh_types::{CodeCopy, Image, NoMemory};
 use std::alloc::{AllocError, Global};
 use std::thread::Threads;
 use thin_image::classify;
@@ -39,7 +40,7 @@ pub fn first_copy(alloc: Global, _file: &[u8], image: &Image) -> Result<CodeCopy
 }
 
 /// The image of the file with these bytes; None where the file is refused or is not thin.
-#[tactic(auto, unfolding(sh_types::specs::Thin::thin_image))]
+#[tactic(auto, unfolding(elf_rules::specs::Thin::thin_image))]
 fn read_thin<R: Threads + Sync>(
     rt: &R,
     alloc: Global,

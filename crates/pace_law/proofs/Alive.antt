@@ -9,15 +9,15 @@ use Rattle.sh_types.specs.declared.code.Region.{Region}
 use Rattle.sh_types.specs.declared.runs.Stored.{Stored}
 use Rattle.sh_types.specs.declared.runs.Trap.{Trap}
 use Rattle.sh_types.specs.declared.runs.Trap.TheVariants as trap
-use Rattle.sh_types.specs.declared.instructions.Instr.{Instr}
-use Rattle.sh_types.specs.Environment.{CallDid, Answers, Reads, Starts, ExitsHart, ExitsRun, LeaksWord, call_of}
-use Rattle.sh_types.specs.Kind.{Kind, Sets, Computes, Passes, Loads, Stores, Atomics, Saves, Restores, CallsTo, JumpsTo, Branches, CallsThrough, JumpsThrough, GoesBack, Asks, Breaks, Illegal, Past, kind_at}
-use Rattle.sh_types.specs.Memory.{readable, writable}
-use Rattle.sh_types.specs.Need.{Outcome, Goes, Puts, Calls, Quits, Traps, Leaks, Need, Makes, Touches, answered, plus_imm, touching, stored_at, kept_from, is_held}
-use Rattle.sh_types.specs.Operands.{reads_ra, both_ra, computed, width_of, is_lr, is_sc}
-use Rattle.sh_types.specs.Arithmetic.{compare_of}
-use Rattle.sh_types.specs.Tokens.{jump_number}
-use Rattle.sh_types.specs.Unmoved.{Thread, Content, Number, Return, is_return, next_of, goes, reserves, set_thread, load_content, store_content, reserve_content, store_if, amo_content, atomic_content, save_content, take_content, save_by, call_by, jump_by, back_to, thread_does, thread_needs, Unmoved, any_alive, end_if, thread_loses, threads_lose, ended_thread, new_thread, then_call, thread_asks, then_leaves, on_thread, goes_still, is_alive, can_go, unmoved_step, unmoved_from, unmoved_start, unmoved_run}
+use Rattle.rv_table.specs.declared.instructions.Instr.{Instr}
+use Rattle.sh_machines.specs.Environment.{CallDid, Answers, Reads, Starts, ExitsHart, ExitsRun, LeaksWord, call_of}
+use Rattle.sh_machines.specs.Kind.{Kind, Sets, Computes, Passes, Loads, Stores, Atomics, Saves, Restores, CallsTo, JumpsTo, Branches, CallsThrough, JumpsThrough, GoesBack, Asks, Breaks, Illegal, Past, kind_at}
+use Rattle.sh_machines.specs.Memory.{readable, writable}
+use Rattle.sh_machines.specs.Need.{Outcome, Goes, Puts, Calls, Quits, Traps, Leaks, Need, Makes, Touches, answered, touching, stored_at, kept_from, is_held}
+use Rattle.rv_table.specs.Operands.{plus_imm, reads_ra, both_ra, computed, width_of, is_lr, is_sc}
+use Rattle.rv_table.specs.Arithmetic.{compare_of}
+use Rattle.sh_machines.specs.Tokens.{jump_number}
+use Rattle.sh_machines.specs.Unmoved.{Thread, Content, Number, Return, is_return, next_of, goes, reserves, set_thread, load_content, store_content, reserve_content, store_if, amo_content, atomic_content, save_content, take_content, save_by, call_by, jump_by, back_to, thread_does, thread_needs, Unmoved, any_alive, end_if, thread_loses, threads_lose, ended_thread, new_thread, then_call, thread_asks, then_leaves, on_thread, goes_still, is_alive, can_go, unmoved_step, unmoved_from, unmoved_start, unmoved_run}
 use Rattle.pace_law.proofs.Bools.{and_second}
 
 -- ---- a hart is live after its instruction, where that neither ends it nor the run

@@ -5,12 +5,12 @@ use Rattle.std.proofs.lemmas.List.{append-nil}
 use Rattle.sh_types.specs.declared.code.Image.{Image}
 use Rattle.sh_types.specs.declared.runs.Event.{Event}
 use Rattle.sh_types.specs.declared.runs.Event.TheVariants.{Run, Migrate, Publish, Erase}
-use Rattle.sh_types.specs.Event.{is_allowed, state_after, IsLegalIn, written}
-use Rattle.sh_types.specs.Next.{may_come, all_may}
-use Rattle.sh_types.specs.Pace.{Pace, paced_on, followed, keeps_pace, all_keep, opening_pace, pace_after, IsPaced}
-use Rattle.sh_types.specs.Serial.{Schedule, is_done, serial_in, serial_from, serial_list}
-use Rattle.sh_types.specs.Shuffled.{Setting}
-use Rattle.sh_types.specs.Unmoved.{goes_still, unmoved_start, unmoved_run}
+use Rattle.sh_machines.specs.Event.{is_allowed, state_after, IsLegalIn, written}
+use Rattle.sh_machines.specs.Next.{may_come, all_may}
+use Rattle.sh_machines.specs.Pace.{Pace, paced_on, followed, keeps_pace, all_keep, opening_pace, pace_after, IsPaced}
+use Rattle.sh_machines.specs.Serial.{Schedule, is_done, serial_in, serial_from, serial_list}
+use Rattle.sh_machines.specs.Shuffled.{Setting}
+use Rattle.sh_machines.specs.Unmoved.{goes_still, unmoved_start, unmoved_run}
 use Rattle.sh_law.proofs.Pacing.{guest_is}
 use Rattle.sh_law.proofs.Prefixes.{legal_more, legal_after, pace_more, paced_more, paced_after, by_prefix}
 use Rattle.sh_law.proofs.Prefixes.{legal_before, paced_before}

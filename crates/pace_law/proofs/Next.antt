@@ -2,9 +2,9 @@
 use Rattle.std.proofs.Common.{◌≡◌, ℕ, suc, ◌+◌, Bool, true, false, List, [], ◌∷◌, refl, ap, ◌∙◌, arith}
 use Rattle.std.specs.Prelude.{◌||◌, nat_le, if◌then◌else◌, slice_get}
 use Rattle.sh_types.specs.declared.code.Image.{Image}
-use Rattle.sh_types.specs.Pace.{live_from}
-use Rattle.sh_types.specs.Serial.{first_or, next_from, next_hart}
-use Rattle.sh_types.specs.Unmoved.{Thread, Unmoved, any_alive, goes_still, is_alive, can_go, unmoved_run}
+use Rattle.sh_machines.specs.Pace.{live_from}
+use Rattle.sh_machines.specs.Serial.{first_or, next_from, next_hart}
+use Rattle.sh_machines.specs.Unmoved.{Thread, Unmoved, any_alive, goes_still, is_alive, can_go, unmoved_run}
 use Rattle.pace_law.proofs.Alive.{run_live}
 use Rattle.pace_law.proofs.Bools.{both_true}
 

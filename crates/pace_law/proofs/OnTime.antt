@@ -6,11 +6,11 @@ use Rattle.std.proofs.Math.Nat.{div-add-mod}
 use Rattle.sh_types.specs.declared.runs.Event.{Event}
 use Rattle.sh_types.specs.declared.runs.Event.TheVariants.{Run, Publish}
 use Rattle.sh_types.specs.declared.runs.Hart.{Hart}
-use Rattle.sh_types.specs.Copy.{wiped_copy}
-use Rattle.sh_types.specs.Event.{instructions, is_live, can_run, can_all, state_after, IsLegalIn, written}
-use Rattle.sh_types.specs.Pace.{Pace, is_among, paced_on, keeps_pace, pace_after, IsPaced}
-use Rattle.sh_types.specs.Shuffled.{Setting, Shuffled, shuffled_step}
-use Rattle.sh_types.specs.Unmoved.{is_alive, goes_still}
+use Rattle.sh_machines.specs.Copy.{wiped_copy}
+use Rattle.sh_machines.specs.Event.{instructions, is_live, can_run, can_all, state_after, IsLegalIn, written}
+use Rattle.sh_machines.specs.Pace.{Pace, is_among, paced_on, keeps_pace, pace_after, IsPaced}
+use Rattle.sh_machines.specs.Shuffled.{Setting, Shuffled, shuffled_step}
+use Rattle.sh_machines.specs.Unmoved.{is_alive, goes_still}
 use Rattle.sh_law.specs.Paced.{StandsPaced}
 use Rattle.sh_law.proofs.Prefixes.{state_more, legal_more, legal_before, legal_after, pace_more, paced_more, paced_before, paced_after}
 use Rattle.pace_law.specs.Copies.{RunsOnTime}

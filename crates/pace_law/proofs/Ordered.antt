@@ -2,20 +2,20 @@
 use Rattle.std.proofs.Common.{◌≡◌, Some, [], ◌∷◌, length, refl}
 use Rattle.std.specs.Prelude.{take}
 use Rattle.sh_types.specs.declared.runs.End.TheVariants as end
-use Rattle.sh_types.specs.Arithmetic.{alu_of, amo_of, compare_of, extend_of}
-use Rattle.sh_types.specs.Copy.{saves, restores, literals_in, literals_below}
-use Rattle.sh_types.specs.Decoding.{decoded, op_in}
-use Rattle.sh_types.specs.Environment.{call_of}
-use Rattle.sh_types.specs.Event.{written}
+use Rattle.rv_table.specs.Arithmetic.{alu_of, amo_of, compare_of, extend_of}
+use Rattle.sh_machines.specs.Copy.{saves, restores, literals_in, literals_below}
+use Rattle.rv_table.specs.Decoding.{decoded, op_in}
+use Rattle.sh_machines.specs.Environment.{call_of}
+use Rattle.sh_machines.specs.Event.{written}
 use Rattle.sh_types.specs.Image.{sizes_of, row_in}
-use Rattle.sh_types.specs.Instruction.{row_of}
-use Rattle.sh_types.specs.Kind.{kind_at, plain_kind}
-use Rattle.sh_types.specs.Memory.{each_from, readable, writable, first_byte, first_word, bytes_from}
-use Rattle.sh_types.specs.Need.{part_of, with_part, patched, shares}
-use Rattle.sh_types.specs.Operands.{is_register, reads_ra, computed, width_of, taken_as}
-use Rattle.sh_types.specs.PlainSerial.{plain_turns, plain_list}
-use Rattle.sh_types.specs.Serial.{calls_next, turn, serial_from, serial_list}
-use Rattle.sh_types.specs.Unmoved.{thread_needs, unmoved_step, unmoved_run}
+use Rattle.rv_table.specs.Instruction.{row_of}
+use Rattle.sh_machines.specs.Kind.{kind_at, plain_kind}
+use Rattle.sh_machines.specs.Memory.{each_from, readable, writable, first_byte, first_word, bytes_from}
+use Rattle.sh_machines.specs.Need.{part_of, with_part, patched, shares}
+use Rattle.rv_table.specs.Operands.{is_register, reads_ra, computed, width_of, taken_as}
+use Rattle.sh_machines.specs.PlainSerial.{plain_turns, plain_list}
+use Rattle.sh_machines.specs.Serial.{calls_next, turn, serial_from, serial_list}
+use Rattle.sh_machines.specs.Unmoved.{thread_needs, unmoved_step, unmoved_run}
 use Rattle.sh_law.specs.Example.{example}
 use Rattle.pace_law.specs.Order.{small_schedule, first_events}
 

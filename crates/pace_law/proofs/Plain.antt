@@ -6,12 +6,12 @@ use Rattle.std.proofs.lemmas.List.{length-replicate}
 use Rattle.std.proofs.Math.Nat.{div-add-mod}
 use Rattle.sh_types.specs.declared.code.Image.{Image}
 use Rattle.sh_types.specs.declared.runs.Event.{Event}
-use Rattle.sh_types.specs.Event.{written}
-use Rattle.sh_types.specs.Next.{all_go}
-use Rattle.sh_types.specs.Pace.{Pace, opening_pace}
-use Rattle.sh_types.specs.PlainSerial.{Turn, goes_for, written_turn, written_turns, is_over, next_turn, turns_in, plain_turns, plain_list}
-use Rattle.sh_types.specs.Serial.{Schedule, is_done, ready, next_hart, turn_limit, serial_in, serial_from, serial_list}
-use Rattle.sh_types.specs.Unmoved.{Unmoved, goes_still, unmoved_step, unmoved_from, unmoved_start, unmoved_run}
+use Rattle.sh_machines.specs.Event.{written}
+use Rattle.sh_machines.specs.Next.{all_go}
+use Rattle.sh_machines.specs.Pace.{Pace, opening_pace}
+use Rattle.sh_machines.specs.PlainSerial.{Turn, goes_for, written_turn, written_turns, is_over, next_turn, turns_in, plain_turns, plain_list}
+use Rattle.sh_machines.specs.Serial.{Schedule, is_done, ready, next_hart, turn_limit, serial_in, serial_from, serial_list}
+use Rattle.sh_machines.specs.Unmoved.{Unmoved, goes_still, unmoved_step, unmoved_from, unmoved_start, unmoved_run}
 use Rattle.sh_law.proofs.Whole.{run_append}
 use Rattle.pace_law.specs.Plainly.{AreWithin}
 use Rattle.pace_law.specs.Step.{InStep}

@@ -6,12 +6,12 @@ use Rattle.std.proofs.lemmas.List.{length-replicate}
 use Rattle.sh_types.specs.declared.code.Image.{Image}
 use Rattle.sh_types.specs.declared.runs.Event.{Event}
 use Rattle.sh_types.specs.declared.runs.Event.TheVariants.{Run, Migrate, Publish, Erase}
-use Rattle.sh_types.specs.Event.{written}
-use Rattle.sh_types.specs.Next.{may_come, all_may}
-use Rattle.sh_types.specs.Pace.{Pace, live_from, without, is_among, paced_on, followed}
-use Rattle.sh_types.specs.PlainSerial.{goes_for}
-use Rattle.sh_types.specs.Serial.{Schedule, turn_in, turn, migrations, cleared_away, publication, boundary, is_done, is_due, ready, next_hart, turn_limit, serial_in}
-use Rattle.sh_types.specs.Unmoved.{Unmoved, goes_still, unmoved_from}
+use Rattle.sh_machines.specs.Event.{written}
+use Rattle.sh_machines.specs.Next.{may_come, all_may}
+use Rattle.sh_machines.specs.Pace.{Pace, live_from, without, is_among, paced_on, followed}
+use Rattle.sh_machines.specs.PlainSerial.{goes_for}
+use Rattle.sh_machines.specs.Serial.{Schedule, turn_in, turn, migrations, cleared_away, publication, boundary, is_done, is_due, ready, next_hart, turn_limit, serial_in}
+use Rattle.sh_machines.specs.Unmoved.{Unmoved, goes_still, unmoved_from}
 use Rattle.sh_law.proofs.Pacing.{guest_is}
 use Rattle.sh_law.proofs.Prefixes.{followed_append}
 use Rattle.pace_law.specs.Step.{InStep}

@@ -4,12 +4,12 @@ use Rattle.std.specs.Prelude.{slice_get, nat_le, if◌then◌else◌}
 use Rattle.std.proofs.lemmas.Bool.Decides.{nat_tests}
 use Rattle.sh_types.specs.declared.code.Image.{Image}
 use Rattle.sh_types.specs.declared.runs.Event.TheVariants.{Run}
-use Rattle.sh_types.specs.Event.{written}
-use Rattle.sh_types.specs.Next.{all_go, all_may}
-use Rattle.sh_types.specs.Pace.{Pace, live_from, is_among, paced_on}
-use Rattle.sh_types.specs.PlainSerial.{goes_for}
-use Rattle.sh_types.specs.Serial.{calls_next, further, run_length, turn_in, first_or, next_from, next_hart}
-use Rattle.sh_types.specs.Unmoved.{Thread, Unmoved, any_alive, goes_still, is_alive, can_go, unmoved_step, unmoved_from}
+use Rattle.sh_machines.specs.Event.{written}
+use Rattle.sh_machines.specs.Next.{all_go, all_may}
+use Rattle.sh_machines.specs.Pace.{Pace, live_from, is_among, paced_on}
+use Rattle.sh_machines.specs.PlainSerial.{goes_for}
+use Rattle.sh_machines.specs.Serial.{calls_next, further, run_length, turn_in, first_or, next_from, next_hart}
+use Rattle.sh_machines.specs.Unmoved.{Thread, Unmoved, any_alive, goes_still, is_alive, can_go, unmoved_step, unmoved_from}
 use Rattle.sh_law.proofs.Trailing.{IsIn, among_live}
 use Rattle.pace_law.proofs.Alive.{StillLive}
 use Rattle.pace_law.proofs.Bools.{and_first, and_second, both_true}

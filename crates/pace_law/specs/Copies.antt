@@ -1,7 +1,7 @@
 -- From which copy an instruction of a paced journal runs. This project's own.
 use Rattle.std.specs.Prelude.{◌≡◌, ℕ, ◌+◌, ◌*◌, ◌/◌, ◌<◌, true, Some, slice_get}
 use Rattle.sh_types.specs.declared.runs.Hart.{Hart}
-use Rattle.sh_types.specs.Shuffled.{Shuffled}
+use Rattle.sh_machines.specs.Shuffled.{Shuffled}
 
 -- The hart's next instruction, before which the state stands, is in the copy of the layout of the count: that of a count
 -- c is c / period + 1. So it is not once the copy's period is over.

@@ -2,7 +2,7 @@
 use Rattle.std.specs.Prelude.{List, [], ◌∷◌}
 use Rattle.sh_types.specs.declared.runs.Event.{Event}
 use Rattle.sh_types.specs.declared.runs.Event.TheVariants.{Run, Migrate, Publish, Erase}
-use Rattle.sh_types.specs.Serial.{Schedule}
+use Rattle.sh_machines.specs.Serial.{Schedule}
 
 -- a period of twenty instructions, turns of six, and more steps than the image takes
 abbrev pub small_schedule : Schedule

@@ -4,11 +4,11 @@ ghost use Rattle.sh_types.specs.declared.code.Image.{Image};
 ghost use Rattle.sh_types.specs.declared.layouts.Layout.{Layout};
 ghost use Rattle.sh_types.specs.declared.runs.Event.{Event};
 ghost use Rattle.sh_types.specs.declared.runs.Event.TheVariants.{Run, Publish};
-ghost use Rattle.sh_types.specs.Copy.{wiped_copy};
-ghost use Rattle.sh_types.specs.Event.{IsLegalIn, instructions, state_after};
-ghost use Rattle.sh_types.specs.Fine.{IsSetting};
-ghost use Rattle.sh_types.specs.Pace.{IsPaced};
-ghost use Rattle.sh_types.specs.Shuffled.{Setting};
+ghost use Rattle.sh_machines.specs.Copy.{wiped_copy};
+ghost use Rattle.sh_machines.specs.Event.{IsLegalIn, instructions, state_after};
+ghost use Rattle.sh_machines.specs.Fine.{IsSetting};
+ghost use Rattle.sh_machines.specs.Pace.{IsPaced};
+ghost use Rattle.sh_machines.specs.Shuffled.{Setting};
 ghost use Rattle.pace_law.specs.Copies.{RunsOnTime};
 
 use crate::lists::counts_are_in_step;

@@ -2,12 +2,12 @@
 ghost use Rattle.std.specs.Prelude.{◌≡◌, ℕ, ◌≤◌, List, ◌++◌, length, true};
 ghost use Rattle.sh_types.specs.declared.code.Image.{Image};
 ghost use Rattle.sh_types.specs.declared.runs.Event.{Event};
-ghost use Rattle.sh_types.specs.Event.{IsLegalIn, written};
-ghost use Rattle.sh_types.specs.Fine.{IsSetting};
-ghost use Rattle.sh_types.specs.Pace.{IsPaced, pace_after};
-ghost use Rattle.sh_types.specs.Serial.{Schedule, is_done, serial_from, serial_list};
-ghost use Rattle.sh_types.specs.Shuffled.{Setting};
-ghost use Rattle.sh_types.specs.Unmoved.{goes_still, unmoved_run};
+ghost use Rattle.sh_machines.specs.Event.{IsLegalIn, written};
+ghost use Rattle.sh_machines.specs.Fine.{IsSetting};
+ghost use Rattle.sh_machines.specs.Pace.{IsPaced, pace_after};
+ghost use Rattle.sh_machines.specs.Serial.{Schedule, is_done, serial_from, serial_list};
+ghost use Rattle.sh_machines.specs.Shuffled.{Setting};
+ghost use Rattle.sh_machines.specs.Unmoved.{goes_still, unmoved_run};
 ghost use Rattle.pace_law.specs.Step.{InStep};
 
 use sh_law::paced_events_are_allowed;

@@ -1,10 +1,10 @@
 //! A serial run that is known.
 ghost use Rattle.std.specs.Prelude.{◌≡◌, Some, [], ◌∷◌, length, take};
 ghost use Rattle.sh_types.specs.declared.runs.End.TheVariants as end;
-ghost use Rattle.sh_types.specs.Event.{written};
-ghost use Rattle.sh_types.specs.PlainSerial.{plain_list};
-ghost use Rattle.sh_types.specs.Serial.{serial_list};
-ghost use Rattle.sh_types.specs.Unmoved.{unmoved_run};
+ghost use Rattle.sh_machines.specs.Event.{written};
+ghost use Rattle.sh_machines.specs.PlainSerial.{plain_list};
+ghost use Rattle.sh_machines.specs.Serial.{serial_list};
+ghost use Rattle.sh_machines.specs.Unmoved.{unmoved_run};
 ghost use Rattle.sh_law.specs.Example.{example};
 ghost use Rattle.pace_law.specs.Order.{small_schedule, first_events};
 

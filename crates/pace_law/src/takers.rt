@@ -1,8 +1,8 @@
 //! Who takes a turn.
 ghost use Rattle.std.specs.Prelude.{◌≡◌, ℕ, true, List};
 ghost use Rattle.sh_types.specs.declared.code.Image.{Image};
-ghost use Rattle.sh_types.specs.Serial.{next_hart};
-ghost use Rattle.sh_types.specs.Unmoved.{goes_still, can_go, unmoved_run};
+ghost use Rattle.sh_machines.specs.Serial.{next_hart};
+ghost use Rattle.sh_machines.specs.Unmoved.{goes_still, can_go, unmoved_run};
 
 /// As long as the run goes on, the hart of the next turn can go.
 #[tactic(auto, using(crate::proofs::Next::next_goes))]

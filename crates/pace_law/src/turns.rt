@@ -1,11 +1,11 @@
 //! The serial order of a run that is never moved.
 ghost use Rattle.std.specs.Prelude.{◌≡◌, ℕ, ◌≤◌, List, length, true};
 ghost use Rattle.sh_types.specs.declared.code.Image.{Image};
-ghost use Rattle.sh_types.specs.Event.{written};
-ghost use Rattle.sh_types.specs.Next.{all_go};
-ghost use Rattle.sh_types.specs.PlainSerial.{plain_list, plain_turns};
-ghost use Rattle.sh_types.specs.Serial.{Schedule, serial_list};
-ghost use Rattle.sh_types.specs.Unmoved.{goes_still, unmoved_run, unmoved_start};
+ghost use Rattle.sh_machines.specs.Event.{written};
+ghost use Rattle.sh_machines.specs.Next.{all_go};
+ghost use Rattle.sh_machines.specs.PlainSerial.{plain_list, plain_turns};
+ghost use Rattle.sh_machines.specs.Serial.{Schedule, serial_list};
+ghost use Rattle.sh_machines.specs.Unmoved.{goes_still, unmoved_run, unmoved_start};
 ghost use Rattle.pace_law.specs.Plainly.{AreWithin};
 
 /// In the serial order without layouts each instruction is of a hart that is live where it stands. There are at most

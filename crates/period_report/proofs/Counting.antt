@@ -3,7 +3,7 @@ use Rattle.std.proofs.Common.{◌≡◌, ℕ, ◌+◌, ◌^◌, ◌≤◌, ◌<�
 use Rattle.std.proofs.lemmas.List.{at_drop_more, length-append, length-replicate}
 use Rattle.sh_types.specs.declared.runs.Event.{Event}
 use Rattle.sh_types.specs.declared.runs.Event.TheVariants.{Run, Migrate, Publish, Erase}
-use Rattle.sh_types.specs.Event.{written}
+use Rattle.sh_machines.specs.Event.{written}
 use Rattle.sh_types.specs.Recent.{last_64}
 use Rattle.layout_maker.specs.Cell.{cell_of, recent_of}
 use Rattle.layout_maker.proofs.Cells.{recent_more}

@@ -4,8 +4,8 @@ use Rattle.std.specs.Prelude.{slice_get}
 use Rattle.sh_types.specs.declared.runs.Event.{Event}
 use Rattle.sh_types.specs.declared.runs.Event.TheVariants.{Run, Migrate, Publish, Erase}
 use Rattle.sh_types.specs.declared.runs.Hart.{Hart}
-use Rattle.sh_types.specs.Event.{instructions, migrate, after_event, IsLegalFrom, IsLegalIn}
-use Rattle.sh_types.specs.Shuffled.{Setting, Shuffled, shuffled_start}
+use Rattle.sh_machines.specs.Event.{instructions, migrate, after_event, IsLegalFrom, IsLegalIn}
+use Rattle.sh_machines.specs.Shuffled.{Setting, Shuffled, shuffled_start}
 use Rattle.sh_law.proofs.Lists.{and_second, eq_of}
 use Rattle.sh_law.proofs.Wiping.{all_same}
 use Rattle.shuf_machine.specs.declared.answers.Origin.{Origin}

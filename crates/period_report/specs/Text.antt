@@ -12,7 +12,7 @@ use Rattle.sh_types.specs.declared.runs.Event.TheVariants.{Run, Migrate, Publish
 use Rattle.sh_types.specs.declared.runs.Trap.{Trap}
 use Rattle.sh_types.specs.declared.runs.Trap.TheVariants.{Illegal, Breakpoint, FellOff, Misaligned, Load, Store, BadJump}
 use Rattle.sh_types.specs.Image.{sizes_of}
-use Rattle.sh_types.specs.Shuffled.{Shuffled}
+use Rattle.sh_machines.specs.Shuffled.{Shuffled}
 use Rattle.layout_maker.specs.Cell.{cell_of}
 use Rattle.shuf_machine.specs.declared.answers.Origin.{Origin}
 use Rattle.shuf_machine.specs.Run.{image_of, shuffled_run}

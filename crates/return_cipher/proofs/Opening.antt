@@ -5,7 +5,7 @@ use Rattle.std.specs.Int.{w64, rotate_left}
 use Rattle.std.specs.Int.Bits.{or_self, xor_self, xor_zero_r, xor_assoc}
 use Rattle.std.proofs.lemmas.Nat.{pow_pos, pow-add, shl-shr, shr_split, mod-pow-add, or_shifted, xor_lt, div-mul-add, mod-mul-add, mul-add-lt}
 use Rattle.std.proofs.Math.Nat.{mul-mod_left, div-lt_iff_lt-mul, mod-lt}
-use Rattle.sh_types.specs.Cipher.{seal, unseal}
+use Rattle.sh_machines.specs.Cipher.{seal, unseal}
 
 high : (x j k : ℕ) → x < 2 ^ (j + k) → x / 2 ^ j < 2 ^ k
 high x j k h = (div-lt_iff_lt-mul (pow_pos j)).1 (subst (λ y. x < y) (pow-add 2 j k ∙ omega arith) h)

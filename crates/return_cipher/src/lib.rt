@@ -2,11 +2,11 @@
 #![tactic(auto)]
 
 ghost use Rattle.std.specs.Prelude.{◌≡◌, ℕ, ◌<◌, ◌^◌};
-ghost use Rattle.sh_types.specs.Cipher.{seal as seal_of, unseal as unseal_of};
+ghost use Rattle.sh_machines.specs.Cipher.{seal as seal_of, unseal as unseal_of};
 
 /// The word that stands at the slot, an address of a multiple of 8, for this address of code, 0 for the root.
 /// It takes no memory.
-#[tactic(auto, unfolding(sh_types::specs::Cipher::seal))]
+#[tactic(auto, unfolding(sh_machines::specs::Cipher::seal))]
 pub fn seal(key: u64, slot: u64, address: u64) -> u64
     ensures { result ≡ seal_of key slot address }
 {
@@ -14,7 +14,7 @@ pub fn seal(key: u64, slot: u64, address: u64) -> u64
 }
 
 /// The address of code that a word at the slot was sealed for. It takes no memory.
-#[tactic(auto, unfolding(sh_types::specs::Cipher::unseal))]
+#[tactic(auto, unfolding(sh_machines::specs::Cipher::unseal))]
 pub fn unseal(key: u64, slot: u64, word: u64) -> u64
     ensures { result ≡ unseal_of key slot word }
 {

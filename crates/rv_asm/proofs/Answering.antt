@@ -6,7 +6,7 @@ use Rattle.asm_text.specs.declared.faults.AsmFault.TheVariants as refusal
 use Rattle.asm_text.specs.declared.faults.LineFault.{LineFault}
 use Rattle.asm_text.specs.declared.statements.Item.{Item}
 use Rattle.asm_text.specs.Source.{source_of}
-use Rattle.rv_asm.specs.declared.object.Object.{Object}
+use Rattle.sh_types.specs.declared.objects.Object.{Object}
 use Rattle.rv_asm.specs.Checking.{Checks}
 use Rattle.rv_asm.specs.Object.{object_from, object_of, Assembles}
 use Rattle.rv_asm.specs.Passes.{fault_of}

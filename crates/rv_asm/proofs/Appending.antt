@@ -3,8 +3,8 @@ use Rattle.std.proofs.Common.{◌≡◌, ℕ, List, [], ◌∷◌, ◌++◌, ref
 use Rattle.std.specs.Prelude.{ℤ, Result, Ok, Err, IsOkUnless, map}
 use Rattle.asm_text.specs.declared.statements.Statement.{Statement}
 use Rattle.std.proofs.lemmas.List.{append-nil}
-use Rattle.sh_types.specs.declared.instructions.Instr.{Instr}
-use Rattle.sh_types.specs.Instruction.{word_of, IsSigned}
+use Rattle.rv_table.specs.declared.instructions.Instr.{Instr}
+use Rattle.rv_table.specs.Instruction.{word_of, IsSigned}
 use Rattle.rv_asm.specs.declared.writing.Unwritten.{Unwritten}
 use Rattle.rv_asm.specs.declared.writing.Unwritten.TheVariants.{NoMemory, Range}
 use Rattle.rv_asm.specs.Fitting.{Fits}

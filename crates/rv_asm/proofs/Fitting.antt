@@ -2,11 +2,11 @@
 use Rattle.std.proofs.Common.{◌≡◌, ℕ, ◌+◌, ◌-◌, ◌*◌, ◌/◌, ◌%◌, ◌^◌, ◌<◌, ◌≤◌, Bool, true, false, refl, sym, subst, lit<, lit≤, arith}
 use Rattle.std.specs.Prelude.{ℤ, pos, negsuc, nat_lt, [], ◌∷◌, if◌then◌else◌}
 use Rattle.std.proofs.lemmas.Bool.{ltb-true, ltb-false}
-use Rattle.sh_types.specs.declared.instructions.Op.{Op}
-use Rattle.sh_types.specs.declared.instructions.Op.TheVariants.{Lui, Auipc, Jal, Jalr, Addi, Addiw, Slli, Srli, Srai, Slliw, Srliw, Sraiw}
-use Rattle.sh_types.specs.Instruction.{Form, row_of, low_bits, IsSigned, IsUnsigned, FieldsFit, IsInstr}
-use Rattle.sh_types.specs.Instruction.Form.{Upper, Jump, Branch, Immediate, Storing, Register, Shift6, Shift5, Atomic, Reserving, Fencing, Whole}
-use Rattle.sh_types.specs.Decoding.{made, signed_bits}
+use Rattle.rv_table.specs.declared.instructions.Op.{Op}
+use Rattle.rv_table.specs.declared.instructions.Op.TheVariants.{Lui, Auipc, Jal, Jalr, Addi, Addiw, Slli, Srli, Srai, Slliw, Srliw, Sraiw}
+use Rattle.rv_table.specs.Instruction.{Form, row_of, low_bits, IsSigned, IsUnsigned, FieldsFit, IsInstr}
+use Rattle.rv_table.specs.Instruction.Form.{Upper, Jump, Branch, Immediate, Storing, Register, Shift6, Shift5, Atomic, Reserving, Fencing, Whole}
+use Rattle.rv_table.specs.Decoding.{made, signed_bits}
 use Rattle.asm_text.specs.declared.statements.Statement.{Statement}
 use Rattle.asm_text.specs.declared.statements.Statement.TheVariants as statement
 use Rattle.rv_asm.specs.Formed.{HasOperands, IsFormed}

@@ -7,9 +7,9 @@ use Rattle.std.specs.Str.{bytes_eq}
 use Rattle.std.proofs.lemmas.List.{append-nil, length-replicate, take_at, drop_at, nil_from_length}
 use Rattle.std.proofs.lemmas.List.Elements.{All-head, All-tail, All-nil, All-cons, All-contains}
 use Rattle.sh_types.specs.declared.code.Function.{Function}
-use Rattle.sh_types.specs.declared.instructions.Op.TheVariants.{Lui, Addi, Addiw}
-use Rattle.sh_types.specs.Instruction.{low_bits, word_of}
-use Rattle.sh_types.specs.Decoding.{made}
+use Rattle.rv_table.specs.declared.instructions.Op.TheVariants.{Lui, Addi, Addiw}
+use Rattle.rv_table.specs.Instruction.{low_bits, word_of}
+use Rattle.rv_table.specs.Decoding.{made}
 use Rattle.asm_text.specs.declared.statements.Statement.{Statement}
 use Rattle.asm_text.specs.declared.statements.Statement.TheVariants as statement
 use Rattle.asm_text.specs.declared.statements.Item.{Item}

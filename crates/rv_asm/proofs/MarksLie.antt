@@ -6,8 +6,8 @@ use Rattle.std.proofs.lemmas.List.Elements.{All-nil, All-cons, All-head, All-tai
 use Rattle.asm_text.specs.declared.statements.Statement.{Statement}
 use Rattle.asm_text.specs.declared.statements.Statement.TheVariants as statement
 use Rattle.asm_text.specs.declared.statements.Item.{Item}
-use Rattle.rv_asm.specs.declared.object.Mark.{Mark}
-use Rattle.rv_asm.specs.declared.object.Object.{Object}
+use Rattle.sh_types.specs.declared.objects.Mark.{Mark}
+use Rattle.sh_types.specs.declared.objects.Object.{Object}
 use Rattle.rv_asm.specs.declared.places.Place.{Place}
 use Rattle.rv_asm.specs.Checking.{IsChecked}
 use Rattle.rv_asm.specs.Data.{text_end}

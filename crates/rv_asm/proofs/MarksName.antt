@@ -4,13 +4,13 @@ use Rattle.std.specs.Prelude.{Option, Some, None, map, option_map, slice_get, â—
 use Rattle.std.specs.Str.{bytes_eq}
 use Rattle.std.proofs.lemmas.List.{map-append}
 use Rattle.std.proofs.lemmas.Slice.Eq.{bytes_eq-Decides}
-use Rattle.sh_types.specs.declared.elf.Symbol.{Symbol}
+use Rattle.sh_types.specs.declared.symbols.Symbol.{Symbol}
 use Rattle.asm_text.specs.Tables.{first_of}
 use Rattle.asm_text.specs.declared.statements.Statement.{Statement}
 use Rattle.asm_text.specs.declared.statements.Statement.TheVariants as statement
 use Rattle.asm_text.specs.declared.statements.Item.{Item}
 use Rattle.rv_asm.specs.declared.places.Place.{Place}
-use Rattle.rv_asm.specs.declared.object.Mark.{Mark}
+use Rattle.sh_types.specs.declared.objects.Mark.{Mark}
 use Rattle.rv_asm.specs.declared.symbols.Scoped.{Scoped}
 use Rattle.rv_asm.specs.Checking.{IsChecked}
 use Rattle.rv_asm.specs.Names.{is_taken, keys_in, functions_in, is_known, unknown_line}

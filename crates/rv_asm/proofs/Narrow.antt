@@ -2,9 +2,9 @@
 use Rattle.std.proofs.Common.{◌≡◌, ℕ, ◌<◌, ◌≤◌, ◌^◌, Bool, true, false, lit≤, arith}
 use Rattle.std.specs.Prelude.{ℤ, pos, negsuc, ◌==◌, if◌then◌else◌}
 use Rattle.std.proofs.lemmas.Bool.{ltb-true, lt-ltb}
-use Rattle.sh_types.specs.declared.instructions.Op.{Op}
-use Rattle.sh_types.specs.declared.instructions.Op.TheVariants.{Slli, Srli, Srai, Slliw, Srliw, Sraiw}
-use Rattle.sh_types.specs.Instruction.{IsSigned}
+use Rattle.rv_table.specs.declared.instructions.Op.{Op}
+use Rattle.rv_table.specs.declared.instructions.Op.TheVariants.{Slli, Srli, Srai, Slliw, Srliw, Sraiw}
+use Rattle.rv_table.specs.Instruction.{IsSigned}
 use Rattle.rv_asm.specs.Ranges.{is_from, is_immediate, is_value}
 
 from_small : (low high : ℕ) (imm : ℤ) → low ≤ 2048 → high ≤ 2048 → is_from low high imm ≡ true → IsSigned 11 imm

@@ -9,7 +9,7 @@ use Rattle.asm_text.specs.declared.statements.Statement.{Statement}
 use Rattle.asm_text.specs.declared.statements.Statement.TheVariants as statement
 use Rattle.asm_text.specs.declared.statements.Item.{Item}
 use Rattle.rv_asm.specs.declared.places.Place.{Place}
-use Rattle.rv_asm.specs.declared.object.Mark.{Mark}
+use Rattle.sh_types.specs.declared.objects.Mark.{Mark}
 use Rattle.rv_asm.specs.declared.symbols.Scoped.{Scoped}
 use Rattle.rv_asm.specs.Places.{place_after, first_place}
 use Rattle.rv_asm.specs.Symbols.{counted, inner_symbol, las_in, inner_symbols, outer_symbols, named_symbols, symbols_of, symbol_of, is_named, number_if, number_at, number_in}

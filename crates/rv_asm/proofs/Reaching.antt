@@ -6,8 +6,8 @@ use Rattle.std.proofs.lemmas.Bool.{ltb-true, ltb-false, eqb-true}
 use Rattle.std.proofs.lemmas.Int.{ints}
 use Rattle.std.proofs.lemmas.List.{at_drop_more}
 use Rattle.std.proofs.lemmas.List.Elements.{All-head, All-tail}
-use Rattle.sh_types.specs.declared.instructions.Op.{Op}
-use Rattle.sh_types.specs.Instruction.{low_bits, IsSigned}
+use Rattle.rv_table.specs.declared.instructions.Op.{Op}
+use Rattle.rv_table.specs.Instruction.{low_bits, IsSigned}
 use Rattle.asm_text.specs.Tables.{first_of}
 use Rattle.asm_text.specs.declared.statements.Statement.{Statement}
 use Rattle.asm_text.specs.declared.statements.Statement.TheVariants as statement

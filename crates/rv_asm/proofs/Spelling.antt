@@ -2,13 +2,13 @@
 use Rattle.std.proofs.Common.{◌≡◌, ◌∙◌, ℕ, ◌^◌, ◌<◌, Bool, true, false, List, [], ◌∷◌, refl, ap, arith}
 use Rattle.std.specs.Prelude.{ℤ, pos, negsuc, ◌&&◌, nat_lt, Option, Some, map}
 use Rattle.std.proofs.lemmas.Bool.{ltb-true}
-use Rattle.sh_types.specs.declared.instructions.Op.{Op}
-use Rattle.sh_types.specs.declared.instructions.Op.TheVariants.{Lui}
-use Rattle.sh_types.specs.declared.instructions.Instr.{Instr}
-use Rattle.sh_types.specs.Instruction.{Form, Row, row_of, low_bits, IsSigned, FieldsFit, IsInstr, fields, word_of}
-use Rattle.sh_types.specs.Instruction.Form.{Upper, Jump, Branch, Immediate, Storing, Register, Shift6, Shift5, Atomic, Reserving, Fencing, Whole}
-use Rattle.sh_types.specs.Decoding.{decoded}
-use Rattle.sh_types.proofs.Reading.{decoded_encodes}
+use Rattle.rv_table.specs.declared.instructions.Op.{Op}
+use Rattle.rv_table.specs.declared.instructions.Op.TheVariants.{Lui}
+use Rattle.rv_table.specs.declared.instructions.Instr.{Instr}
+use Rattle.rv_table.specs.Instruction.{Form, Row, row_of, low_bits, IsSigned, FieldsFit, IsInstr, fields, word_of}
+use Rattle.rv_table.specs.Instruction.Form.{Upper, Jump, Branch, Immediate, Storing, Register, Shift6, Shift5, Atomic, Reserving, Fencing, Whole}
+use Rattle.rv_table.specs.Decoding.{decoded}
+use Rattle.rv_table.proofs.Reading.{decoded_encodes}
 use Rattle.asm_text.specs.declared.statements.Item.{Item}
 use Rattle.rv_asm.specs.declared.places.Place.{Place}
 use Rattle.rv_asm.specs.declared.targets.Target.{Target}

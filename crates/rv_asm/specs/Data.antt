@@ -1,7 +1,7 @@
 -- The bytes of the data, and the words of the text, one statement behind the other.
 use Rattle.std.specs.Prelude.{ℕ, min, Option, Some, None, List, [], ◌∷◌, ◌++◌, take, replicate}
 use Rattle.std.specs.Int.{w64, to_le_bytes}
-use Rattle.sh_types.specs.Instruction.{low_bits}
+use Rattle.rv_table.specs.Instruction.{low_bits}
 use Rattle.asm_text.specs.declared.statements.Statement.{Statement}
 use Rattle.asm_text.specs.declared.statements.Statement.TheVariants as statement
 use Rattle.asm_text.specs.declared.statements.Item.{Item}

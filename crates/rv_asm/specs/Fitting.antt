@@ -1,7 +1,7 @@
 -- The instructions of all statements are in the ranges of their fields.
 use Rattle.std.specs.Prelude.{◌≡◌, ℕ, ℤ, Option, Some, List, [], ◌∷◌, map}
-use Rattle.sh_types.specs.Decoding.{decoded}
-use Rattle.sh_types.specs.Instruction.{IsSigned, word_of}
+use Rattle.rv_table.specs.Decoding.{decoded}
+use Rattle.rv_table.specs.Instruction.{IsSigned, word_of}
 use Rattle.asm_text.specs.declared.statements.Statement.{Statement}
 use Rattle.asm_text.specs.declared.statements.Item.{Item}
 use Rattle.rv_asm.specs.declared.places.Place.{Place}

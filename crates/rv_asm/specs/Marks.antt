@@ -1,11 +1,11 @@
 -- The marks of what refers to what (RISC-V psABI, "Relocations").
 use Rattle.std.specs.Prelude.{ℕ, ◌+◌, ◌==◌, Bool, true, false, Option, Some, None, List, [], ◌∷◌, length, slice_get, option_map, if◌then◌else◌}
-use Rattle.sh_types.specs.declared.elf.Symbol.{Symbol}
+use Rattle.sh_types.specs.declared.symbols.Symbol.{Symbol}
 use Rattle.asm_text.specs.declared.statements.Statement.{Statement}
 use Rattle.asm_text.specs.declared.statements.Statement.TheVariants as statement
 use Rattle.asm_text.specs.declared.statements.Item.{Item}
 use Rattle.rv_asm.specs.declared.places.Place.{Place}
-use Rattle.rv_asm.specs.declared.object.Mark.{Mark}
+use Rattle.sh_types.specs.declared.objects.Mark.{Mark}
 use Rattle.rv_asm.specs.Places.{first_place}
 use Rattle.rv_asm.specs.Symbols.{counted, named_symbols, outer_symbols, number_in, la_name, las_in}
 

@@ -7,7 +7,7 @@ use Rattle.asm_text.specs.declared.faults.AsmFault.TheVariants as refusal
 use Rattle.asm_text.specs.declared.faults.LineFault.{LineFault}
 use Rattle.asm_text.specs.declared.statements.Item.{Item}
 use Rattle.asm_text.specs.Source.{source_of}
-use Rattle.rv_asm.specs.declared.object.Object.{Object}
+use Rattle.sh_types.specs.declared.objects.Object.{Object}
 use Rattle.rv_asm.specs.Data.{text_of, data_of}
 use Rattle.rv_asm.specs.Functions.{functions_of}
 use Rattle.rv_asm.specs.Passes.{entry_of}

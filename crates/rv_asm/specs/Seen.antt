@@ -1,6 +1,6 @@
 -- The instructions of a statement as the code holds them.
 use Rattle.std.specs.Prelude.{List, [], ◌∷◌}
-use Rattle.sh_types.specs.declared.instructions.Instr.{Instr}
+use Rattle.rv_table.specs.declared.instructions.Instr.{Instr}
 use Rattle.rv_asm.specs.declared.words.Sequence.{Sequence}
 use Rattle.rv_asm.specs.declared.words.Sequence.TheVariants as instrs
 

@@ -1,7 +1,7 @@
 -- The symbols of the file that a source becomes, and their numbers (System V gABI, "Symbol Table").
 use Rattle.std.specs.Prelude.{ℕ, ◌+◌, Bool, false, Option, Some, None, List, [], ◌∷◌, ◌++◌, map, codes, decimal, if◌then◌else◌}
 use Rattle.sh_types.specs.declared.code.Function.{Function}
-use Rattle.sh_types.specs.declared.elf.Symbol.{Symbol}
+use Rattle.sh_types.specs.declared.symbols.Symbol.{Symbol}
 use Rattle.asm_text.specs.Tables.{first_of}
 use Rattle.asm_text.specs.declared.statements.Statement.{Statement}
 use Rattle.asm_text.specs.declared.statements.Statement.TheVariants as statement

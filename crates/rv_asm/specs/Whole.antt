@@ -1,10 +1,10 @@
 -- What the object of a source without a fault has.
 use Rattle.std.specs.Prelude.{◌≡◌, ℕ, ◌+◌, ◌-◌, ◌*◌, ◌^◌, ◌<◌, ◌≤◌, List, [], ◌∷◌, length, if◌then◌else◌}
 use Rattle.std.specs.List.{All, concat}
-use Rattle.sh_types.specs.declared.elf.Symbol.{Symbol}
+use Rattle.sh_types.specs.declared.symbols.Symbol.{Symbol}
 use Rattle.asm_text.specs.declared.statements.Item.{Item}
-use Rattle.rv_asm.specs.declared.object.Object.{Object}
-use Rattle.rv_asm.specs.declared.object.Mark.{Mark}
+use Rattle.sh_types.specs.declared.objects.Object.{Object}
+use Rattle.sh_types.specs.declared.objects.Mark.{Mark}
 use Rattle.rv_asm.specs.Data.{text_of}
 
 -- the bytes of the text

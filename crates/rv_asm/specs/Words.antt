@@ -1,9 +1,9 @@
 -- The words that statements give.
 use Rattle.std.specs.Prelude.{ℕ, ℤ, ◌+◌, ◌*◌, ◌/◌, ◌%◌, ◌^◌, List, [], ◌∷◌, ◌++◌, map, replicate, if◌then◌else◌}
-use Rattle.sh_types.specs.declared.instructions.Instr.{Instr}
-use Rattle.sh_types.specs.declared.instructions.Op.TheVariants.{Lui, Auipc, Jal, Jalr, Addi, Addiw}
-use Rattle.sh_types.specs.Instruction.{low_bits, word_of, IsInstr}
-use Rattle.sh_types.specs.Decoding.{made, signed_bits}
+use Rattle.rv_table.specs.declared.instructions.Instr.{Instr}
+use Rattle.rv_table.specs.declared.instructions.Op.TheVariants.{Lui, Auipc, Jal, Jalr, Addi, Addiw}
+use Rattle.rv_table.specs.Instruction.{low_bits, word_of, IsInstr}
+use Rattle.rv_table.specs.Decoding.{made, signed_bits}
 use Rattle.asm_text.specs.declared.statements.Statement.{Statement}
 use Rattle.asm_text.specs.declared.statements.Statement.TheVariants as statement
 use Rattle.rv_asm.specs.Places.{natural, is_small}

@@ -1,7 +1,7 @@
 -- What writing the words of statements does.
 use Rattle.std.specs.Prelude.{◌≡◌, ℕ, ℤ, Result, Ok, Err, List, ◌++◌, map}
-use Rattle.sh_types.specs.declared.instructions.Instr.{Instr}
-use Rattle.sh_types.specs.Instruction.{word_of}
+use Rattle.rv_table.specs.declared.instructions.Instr.{Instr}
+use Rattle.rv_table.specs.Instruction.{word_of}
 use Rattle.asm_text.specs.declared.statements.Statement.{Statement}
 use Rattle.rv_asm.specs.declared.writing.Unwritten.{Unwritten}
 use Rattle.rv_asm.specs.declared.writing.Unwritten.TheVariants.{NoMemory, Range}

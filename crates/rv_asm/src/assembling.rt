@@ -13,11 +13,10 @@ use crate::checking::{checked, entry_name};
 use crate::data::{data_of, text_of};
 use crate::functions::functions_of;
 use crate::marks::{marks_of, narrow};
-use crate::object::Object;
 use crate::symbols::{Scoped, push_data_labels, push_functions, push_inner_symbols};
 use crate::targets::last_place;
 use asm_text::{AsmFault, Item};
-use sh_types::{Bytes, Function, Items, NoMemory, Symbol, SymbolName};
+use sh_types::{Bytes, Function, Items, NoMemory, Object, Symbol, SymbolName};
 use std::alloc::{AllocError, Global};
 
 #[tactic(auto, using(std::proofs::lemmas::List::drop_all))]

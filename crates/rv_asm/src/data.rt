@@ -1,6 +1,6 @@
 //! The bytes of the data and the words of the text.
 ghost use Rattle.std.specs.Prelude.{◌≡◌, ◌≤◌, ◌<◌, ◌^◌, ◌++◌, true, false, None, replicate, length, IfOk, OnOk, IsOkUnless};
-ghost use Rattle.sh_types.specs.Instruction.{low_bits};
+ghost use Rattle.rv_table.specs.Instruction.{low_bits};
 ghost use Rattle.rv_asm.specs.declared.writing.Unwritten.TheVariants as unwritten;
 ghost use Rattle.rv_asm.specs.Checking.{IsChecked};
 ghost use Rattle.rv_asm.specs.Data.{laid, low_bytes, address_or as address_or_of, data_bytes, text_words, data_of as data_of_of, text_of as text_of_of};

@@ -1,9 +1,9 @@
 //! Laws of the words and of the marks, as clauses of functions that do nothing.
 ghost use Rattle.std.specs.Prelude.{◌≡◌, ◌<◌, ◌≤◌, List, ℕ, Some, None, length, map};
 ghost use Rattle.std.specs.List.{All};
-ghost use Rattle.sh_types.specs.declared.instructions.Instr.{Instr};
-ghost use Rattle.sh_types.specs.Instruction.{IsInstr, word_of};
-ghost use Rattle.sh_types.specs.Decoding.{decoded};
+ghost use Rattle.rv_table.specs.declared.instructions.Instr.{Instr};
+ghost use Rattle.rv_table.specs.Instruction.{IsInstr, word_of};
+ghost use Rattle.rv_table.specs.Decoding.{decoded};
 ghost use Rattle.asm_text.specs.Source.{source_of};
 ghost use Rattle.asm_text.specs.declared.statements.Item.{Item};
 ghost use Rattle.rv_asm.specs.Checking.{IsChecked};

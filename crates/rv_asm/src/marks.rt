@@ -6,12 +6,11 @@ ghost use Rattle.rv_asm.specs.Places.{first_place};
 ghost use Rattle.rv_asm.specs.Ranges.{is_past, range_line};
 ghost use Rattle.rv_asm.specs.Symbols.{counted, number_in};
 
-use crate::object::Mark;
 use crate::places::Place;
 use crate::symbols::{Scoped, all_numbers, find_number};
 use crate::targets::{next_place, start};
 use asm_text::{Item, Statement};
-use sh_types::NoMemory;
+use sh_types::{Mark, NoMemory};
 use std::alloc::Global;
 use std::collections::BTreeMap;
 

@@ -3,7 +3,7 @@ ghost use Rattle.std.specs.Prelude.{◌≡◌, ◌<◌, ◌^◌, IsTrue};
 ghost use Rattle.rv_asm.specs.Ranges.{is_from as is_from_of, is_immediate as is_immediate_of, is_value as is_value_of, is_in_range as is_in_range_of};
 
 use asm_text::Statement;
-use sh_types::Op;
+use rv_table::Op;
 
 /// Whether the number is from `-low` to `high - 1`.
 pub fn is_from(low: u128, high: u128, value: i128) -> bool

@@ -1,16 +1,16 @@
 //! The instructions of statements.
 ghost use Rattle.std.specs.Prelude.{◌≡◌, ◌<◌, ◌*◌, ◌^◌, [], ◌∷◌, true};
-ghost use Rattle.sh_types.specs.Instruction.{low_bits, IsSigned};
-ghost use Rattle.sh_types.specs.Decoding.{made, signed_bits};
+ghost use Rattle.rv_table.specs.Instruction.{low_bits, IsSigned};
+ghost use Rattle.rv_table.specs.Decoding.{made, signed_bits};
 ghost use Rattle.rv_asm.specs.Ranges.{is_from, is_immediate, is_in_range};
 ghost use Rattle.rv_asm.specs.Places.{natural as natural_of, is_small as is_small_of};
 ghost use Rattle.rv_asm.specs.Words.{hi20, upper as upper_of, lower as lower_of, literal_of, instrs_of};
-ghost use Rattle.sh_types.specs.declared.instructions.Op.TheVariants.{Auipc};
+ghost use Rattle.rv_table.specs.declared.instructions.Op.TheVariants.{Auipc};
 ghost use Rattle.rv_asm.specs.Seen.{instrs_seen};
 
 use crate::places::{is_small, natural};
 use asm_text::Statement;
-use sh_types::{Instr, Op};
+use rv_table::{Instr, Op};
 
 /// The instructions of a statement, in their order.
 #[derive(Clone, Copy, Debug, PartialEq, Eq)]

@@ -1,6 +1,6 @@
 //! The words of statements.
 ghost use Rattle.std.specs.Prelude.{◌≡◌, ◌++◌, ◌∷◌, ◌^◌, [], true, replicate, OnOk};
-ghost use Rattle.sh_types.specs.Instruction.{IsSigned};
+ghost use Rattle.rv_table.specs.Instruction.{IsSigned};
 ghost use Rattle.rv_asm.specs.declared.writing.Unwritten.TheVariants as unwritten;
 ghost use Rattle.rv_asm.specs.Places.{natural as natural_of};
 ghost use Rattle.rv_asm.specs.Ranges.{is_from, is_in_range};
@@ -12,7 +12,7 @@ use crate::places::natural;
 use crate::words::{Sequence, instrs};
 use asm_text::Statement;
 use rv_encode::encode;
-use sh_types::Instr;
+use rv_table::Instr;
 use std::alloc::{AllocError, AllocFailed};
 
 /// The word of ADDI x0, x0, 0.

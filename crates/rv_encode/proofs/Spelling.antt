@@ -1,10 +1,10 @@
 -- What the row of a mnemonic says of its instructions.
 use Rattle.std.proofs.Common.{◌≡◌, ℕ, Option, Some, None}
 use Rattle.std.specs.Prelude.{IfSome}
-use Rattle.sh_types.specs.Instruction.{Form, Row, row_of, Encodes, IsInstr, FieldsFit, fields, word_of}
-use Rattle.sh_types.specs.MachineForm.{EncodesX, x_word_of}
-use Rattle.sh_types.specs.declared.instructions.XInstr.{XInstr}
-use Rattle.sh_types.specs.declared.instructions.Instr.{Instr}
+use Rattle.rv_table.specs.Instruction.{Form, Row, row_of, Encodes, IsInstr, FieldsFit, fields, word_of}
+use Rattle.rv_table.specs.MachineForm.{EncodesX, x_word_of}
+use Rattle.rv_table.specs.declared.instructions.XInstr.{XInstr}
+use Rattle.rv_table.specs.declared.instructions.Instr.{Instr}
 
 module _ (i : Instr) (r : Row) (f : Form) (e : r ≡ row_of i.op) (is : r.form ≡ f) where
   pub encodes_by : (w : ℕ) → FieldsFit i.rd i.rs1 i.rs2 i.imm f → w ≡ fields r i.rd i.rs1 i.rs2 i.imm f → Encodes i w

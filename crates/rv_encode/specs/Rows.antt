@@ -1,7 +1,7 @@
 -- The rows that the code holds, as those of the table.
 use Rattle.std.specs.Prelude.{ℕ}
-use Rattle.sh_types.specs.Instruction.{Form as TableForm, Row as TableRow, row}
-use Rattle.sh_types.specs.Instruction.Form.{Upper as IsUpper, Jump as IsJump, Branch as IsBranch, Immediate as IsImmediate, Storing as IsStoring, Register as IsRegister, Shift6 as IsShift6, Shift5 as IsShift5, Atomic as IsAtomic, Reserving as IsReserving, Fencing as IsFencing, Whole as IsWhole}
+use Rattle.rv_table.specs.Instruction.{Form as TableForm, Row as TableRow, row}
+use Rattle.rv_table.specs.Instruction.Form.{Upper as IsUpper, Jump as IsJump, Branch as IsBranch, Immediate as IsImmediate, Storing as IsStoring, Register as IsRegister, Shift6 as IsShift6, Shift5 as IsShift5, Atomic as IsAtomic, Reserving as IsReserving, Fencing as IsFencing, Whole as IsWhole}
 use Rattle.rv_encode.specs.declared.rows.Form.{Form}
 use Rattle.rv_encode.specs.declared.rows.Form.TheVariants.{Upper, Jump, Branch, Immediate, Storing, Register, Shift6, Shift5, Atomic, Reserving, Fencing, Whole}
 use Rattle.rv_encode.specs.declared.rows.Row.{Row}

@@ -1,12 +1,12 @@
 //! For each form, the word of an instruction whose row has it.
 ghost use Rattle.std.specs.Prelude.{◌≡◌, ◌^◌, ◌<◌, IfSome, IfNone};
-ghost use Rattle.sh_types.specs.Instruction.{row_of, Encodes, IsInstr};
+ghost use Rattle.rv_table.specs.Instruction.{row_of, Encodes, IsInstr};
 ghost use Rattle.rv_encode.specs.Rows.{row_seen};
 
 use crate::placing::{branch_high, branch_low, jump_field, placed, placed_long, top};
 use crate::ranges::{below, signed_12, signed_13, signed_21, signed_32};
 use crate::rows::{Form, Row};
-use sh_types::Instr;
+use rv_table::Instr;
 
 #[tactic(auto, using(crate::proofs::Spelling::encodes_by, crate::proofs::Spelling::fits_by))]
 pub fn upper(row: Row, instr: &Instr) -> Option<u32>

@@ -1,12 +1,12 @@
 //! Known words, as clauses of a function that does nothing.
 ghost use Rattle.std.specs.Prelude.{◌≡◌, pos, negsuc};
-ghost use Rattle.sh_types.specs.Instruction.{IsInstr, word_of};
-ghost use Rattle.sh_types.specs.MachineForm.{IsXInstr, x_word_of};
-ghost use Rattle.sh_types.specs.declared.instructions.Op.TheVariants.{Beq, Jal, Sd};
-ghost use Rattle.sh_types.specs.declared.instructions.XInstr.TheVariants.{Lit, Sra, Lra, Tjalr};
+ghost use Rattle.rv_table.specs.Instruction.{IsInstr, word_of};
+ghost use Rattle.rv_table.specs.MachineForm.{IsXInstr, x_word_of};
+ghost use Rattle.rv_table.specs.declared.instructions.Op.TheVariants.{Beq, Jal, Sd};
+ghost use Rattle.rv_table.specs.declared.instructions.XInstr.TheVariants.{Lit, Sra, Lra, Tjalr};
 
 /// Words that the definitions give, and fields that are just within their range or just out of it.
-#[tactic(auto, unfolding(sh_types::specs::Instruction::row_of))]
+#[tactic(auto, unfolding(rv_table::specs::Instruction::row_of))]
 pub fn known_words()
     ensures save { x_word_of (Sra (pos 8)) ≡ 0x0011042b }
     ensures restore { x_word_of (Lra (pos 8)) ≡ 0x008110ab }

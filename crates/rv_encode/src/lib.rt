@@ -3,10 +3,10 @@
 #![tactic(auto)]
 
 ghost use Rattle.std.specs.Prelude.{◌≡◌, IfSome, IfNone, Some};
-ghost use Rattle.sh_types.specs.Instruction.{Encodes, IsInstr, word_of};
-ghost use Rattle.sh_types.specs.Decoding.{decoded};
-ghost use Rattle.sh_types.specs.MachineForm.{EncodesX, IsXInstr, x_word_of, decoded_x};
-ghost use Rattle.sh_types.specs.declared.instructions.Op.TheVariants.{Jal};
+ghost use Rattle.rv_table.specs.Instruction.{Encodes, IsInstr, word_of};
+ghost use Rattle.rv_table.specs.Decoding.{decoded};
+ghost use Rattle.rv_table.specs.MachineForm.{EncodesX, IsXInstr, x_word_of, decoded_x};
+ghost use Rattle.rv_table.specs.declared.instructions.Op.TheVariants.{Jal};
 
 mod forms;
 mod laws;
@@ -22,7 +22,7 @@ pub use laws::known_words;
 use placing::{placed, placed_long, top};
 use ranges::signed_12;
 use rows::{Form, row_for};
-use sh_types::{Instr, Op, XInstr};
+use rv_table::{Instr, Op, XInstr};
 
 fn word_for(instr: &Instr) -> Option<u32>
     ensures some { IfSome result (λ w. Encodes instr.now w) }
@@ -48,7 +48,7 @@ fn word_for(instr: &Instr) -> Option<u32>
 /// The word of the instruction, which decoding gives back; None where a field is out of the range of the form: a
 /// register of 32 or more, an immediate that is too wide or not a multiple of its scale, or a number other than 0 in a
 /// field that the form lacks.
-#[tactic(auto, using(sh_types::proofs::Reading::spelled_read, crate::proofs::Spelling::spelled_is))]
+#[tactic(auto, using(rv_table::proofs::Reading::spelled_read, crate::proofs::Spelling::spelled_is))]
 pub fn encode(instr: &Instr) -> Option<u32>
     ensures some { IfSome result (λ w. Encodes instr.now w) }
     ensures word { IfSome result (λ w. w ≡ word_of instr.now) }
@@ -77,7 +77,7 @@ pub fn encode_jal(rd: u8, distance: i64) -> Option<u32>
 
 /// The word of a machine form, which `decode_x` gives back; None where a register is 32 or more, a literal's number is
 /// 2^20 or more, or an immediate is not from -2048 to 2047.
-#[tactic(auto, using(sh_types::proofs::MachineWords::spelled_x_read, crate::proofs::Spelling::spelled_x_is))]
+#[tactic(auto, using(rv_table::proofs::MachineWords::spelled_x_read, crate::proofs::Spelling::spelled_x_is))]
 pub fn encode_x(instr: &XInstr) -> Option<u32>
     ensures some { IfSome result (λ w. EncodesX instr.now w) }
     ensures word { IfSome result (λ w. w ≡ x_word_of instr.now) }

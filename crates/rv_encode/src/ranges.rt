@@ -1,6 +1,6 @@
 //! The bits of an immediate that is in its range.
 ghost use Rattle.std.specs.Prelude.{◌≡◌, ◌<◌, ℕ, IfSome, IfNone, pos};
-ghost use Rattle.sh_types.specs.Instruction.{low_bits, IsSigned};
+ghost use Rattle.rv_table.specs.Instruction.{low_bits, IsSigned};
 
 pub fn signed_12(imm: i64) -> Option<u32>
     ensures some { IfSome result (λ n. (n ≡ low_bits 12 imm) × IsSigned 11 imm) }

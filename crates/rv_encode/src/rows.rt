@@ -1,9 +1,9 @@
 //! The rows of the table, for each mnemonic (RISC-V Unprivileged ISA, "RV32/64G Instruction Set Listings").
 ghost use Rattle.std.specs.Prelude.{◌≡◌, ◌<◌, ◌^◌};
-ghost use Rattle.sh_types.specs.Instruction.{row_of};
+ghost use Rattle.rv_table.specs.Instruction.{row_of};
 ghost use Rattle.rv_encode.specs.Rows.{row_seen, above_width};
 
-use sh_types::Op;
+use rv_table::Op;
 
 /// Where an instruction has its fields, as `Form` of the table.
 #[derive(Clone, Copy)]
@@ -42,7 +42,7 @@ const fn new_row(form: Form, opcode: u32, funct3: u32, above: u32) -> Row
     }
 }
 
-#[tactic(auto, unfolding(sh_types::specs::Instruction::row_of))]
+#[tactic(auto, unfolding(rv_table::specs::Instruction::row_of))]
 pub fn row_for(op: Op) -> Row
     ensures row { row_seen result ≡ row_of op }
     ensures opcode { result.opcode < 2 ^ 7 }

@@ -1,7 +1,7 @@
 -- What a line of results says of an instruction.
 use Rattle.std.specs.Prelude.{ℕ, ◌+◌, ◌*◌, ◌/◌, ◌^◌, Option, Some, None, if◌then◌else◌}
-use Rattle.sh_types.specs.Arithmetic.{alu_of, amo_of, is_arithmetic, is_amo, is_word_amo}
-use Rattle.sh_types.specs.declared.instructions.Op.{Op}
+use Rattle.rv_table.specs.Arithmetic.{alu_of, amo_of, is_arithmetic, is_amo, is_word_amo}
+use Rattle.rv_table.specs.declared.instructions.Op.{Op}
 
 -- the number in rd of an arithmetic row; of an atomic the doubleword that is then in memory, where it was a
 abbrev pub result_of : Op → ℕ → ℕ → Option ℕ

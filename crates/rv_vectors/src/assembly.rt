@@ -1,7 +1,7 @@
 //! Instructions as GNU as is given them: registers by their names of the psABI (RISC-V ABIs Specification, "Integer
 //! Register Convention"), distances of jumps from the instruction itself.
 use crate::names::name_of;
-use sh_types::{Instr, Op};
+use rv_table::{Instr, Op};
 use std::fmt;
 
 const REGISTERS: [&str; 32] = [

@@ -1,6 +1,6 @@
 //! The manual's names of the mnemonics (RISC-V Unprivileged ISA, "RV32/64G Instruction Set Listings"), without the
 //! `.aq` and `.rl` of an atomic.
-use sh_types::Op;
+use rv_table::Op;
 
 const NAMES: [(Op, &str); 87] = [
     (Op::Lui, "lui"),

@@ -4,7 +4,7 @@ ghost use Rattle.rv_vectors.specs.Results.{result_of};
 
 use crate::names::op_named;
 use rv_alu::{alu, amo, is_amo, is_arithmetic, is_word_amo};
-use sh_types::Op;
+use rv_table::Op;
 
 #[derive(Clone, Copy)]
 struct Line {

@@ -1,7 +1,7 @@
 //! Lines of a word in hexadecimal, a tab, and its assembly.
 ghost use Rattle.std.specs.Prelude.{◌≡◌};
 ghost use Rattle.std.specs.Option.{option_map};
-ghost use Rattle.sh_types.specs.Decoding.{decoded};
+ghost use Rattle.rv_table.specs.Decoding.{decoded};
 
 use crate::assembly::Assembly;
 use rv_decode::decode;

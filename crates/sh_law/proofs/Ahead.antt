@@ -1,22 +1,22 @@
 -- Turns of small images, computed.
 use Rattle.std.proofs.Common.{◌≡◌, Some, None, [], ◌∷◌, refl}
 use Rattle.std.specs.Prelude.{take}
-use Rattle.sh_types.specs.Arithmetic.{alu_of, amo_of, compare_of, extend_of}
-use Rattle.sh_types.specs.Cipher.{seal, unseal}
-use Rattle.sh_types.specs.Copy.{copied, moved_word, saves, restores, literals_in, literals_below}
-use Rattle.sh_types.specs.Decoding.{decoded, op_in}
-use Rattle.sh_types.specs.Environment.{call_of}
-use Rattle.sh_types.specs.Event.{state_after}
+use Rattle.rv_table.specs.Arithmetic.{alu_of, amo_of, compare_of, extend_of}
+use Rattle.sh_machines.specs.Cipher.{seal, unseal}
+use Rattle.sh_machines.specs.Copy.{copied, moved_word, saves, restores, literals_in, literals_below}
+use Rattle.rv_table.specs.Decoding.{decoded, op_in}
+use Rattle.sh_machines.specs.Environment.{call_of}
+use Rattle.sh_machines.specs.Event.{state_after}
 use Rattle.sh_types.specs.Image.{sizes_of, row_in}
-use Rattle.sh_types.specs.Instruction.{row_of}
-use Rattle.sh_types.specs.Kind.{copied_kind, kind_of_instr, plain_kind}
-use Rattle.sh_types.specs.MachineForm.{decoded_x}
-use Rattle.sh_types.specs.Memory.{each_from, readable, writable, first_byte, first_word, bytes_from}
-use Rattle.sh_types.specs.Need.{part_of, with_part, patched, shares, stored_at}
-use Rattle.sh_types.specs.Notes.{ahead_of, notes_of, effects_of}
-use Rattle.sh_types.specs.Operands.{is_register, reads_ra, computed, width_of, taken_as}
+use Rattle.rv_table.specs.Instruction.{row_of}
+use Rattle.sh_machines.specs.Kind.{copied_kind, kind_of_instr, plain_kind}
+use Rattle.rv_table.specs.MachineForm.{decoded_x}
+use Rattle.sh_machines.specs.Memory.{each_from, readable, writable, first_byte, first_word, bytes_from}
+use Rattle.sh_machines.specs.Need.{part_of, with_part, patched, shares, stored_at}
+use Rattle.sh_machines.specs.Notes.{ahead_of, notes_of, effects_of}
+use Rattle.rv_table.specs.Operands.{is_register, reads_ra, computed, width_of, taken_as}
 use Rattle.sh_types.specs.Place.{whose_of}
-use Rattle.sh_types.specs.Shuffled.{is_guard, kind_there, hart_needs, shuffled_step, shuffled_start}
+use Rattle.sh_machines.specs.Shuffled.{is_guard, kind_there, hart_needs, shuffled_step, shuffled_start}
 use Rattle.sh_law.specs.AheadExample.{tries_setting, note, turn_in}
 use Rattle.sh_law.specs.Example.{example_layout, example_setting, example_events}
 

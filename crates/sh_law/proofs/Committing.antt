@@ -9,13 +9,13 @@ use Rattle.sh_types.specs.declared.runs.End.{End}
 use Rattle.sh_types.specs.declared.runs.Event.{Event}
 use Rattle.sh_types.specs.declared.runs.Hart.{Hart}
 use Rattle.sh_types.specs.declared.runs.Stored.{Stored}
-use Rattle.sh_types.specs.Event.{instructions, is_live, can_run, can_all, state_after, IsLegalIn, written}
-use Rattle.sh_types.specs.Fine.{IsSetting}
-use Rattle.sh_types.specs.Need.{Outcome, Goes, Puts, Calls, Quits, Traps, Leaks, answered, touched, set_at, kept_from}
-use Rattle.sh_types.specs.Notes.{Touched, Ahead, over, touch, touch_if, more_stores, next_needs, goes_ahead, ahead_from, set_off, ahead_of, effects_in, effects_of, notes_of, Hold, harts_lose_all, with_effects}
-use Rattle.sh_types.specs.Shuffled.{Setting, Owned, reserves_on, Shuffled, hart_loses, harts_lose, after, moved_of, on_hart, shuffled_step}
-use Rattle.sh_types.specs.StandsFor.{layout_number, layouts_of}
-use Rattle.sh_types.specs.Unmoved.{Thread, Content, thread_needs, Unmoved, goes_still, unmoved_step, unmoved_run}
+use Rattle.sh_machines.specs.Event.{instructions, is_live, can_run, can_all, state_after, IsLegalIn, written}
+use Rattle.sh_machines.specs.Fine.{IsSetting}
+use Rattle.sh_machines.specs.Need.{Outcome, Goes, Puts, Calls, Quits, Traps, Leaks, answered, touched, set_at, kept_from}
+use Rattle.sh_machines.specs.Notes.{Touched, Ahead, over, touch, touch_if, more_stores, next_needs, goes_ahead, ahead_from, set_off, ahead_of, effects_in, effects_of, notes_of, Hold, harts_lose_all, with_effects}
+use Rattle.sh_machines.specs.Shuffled.{Setting, Owned, reserves_on, Shuffled, hart_loses, harts_lose, after, moved_of, on_hart, shuffled_step}
+use Rattle.sh_machines.specs.StandsFor.{layout_number, layouts_of}
+use Rattle.sh_machines.specs.Unmoved.{Thread, Content, thread_needs, Unmoved, goes_still, unmoved_step, unmoved_run}
 use Rattle.sh_law.specs.Agrees.{Agrees}
 use Rattle.sh_law.specs.Done.{AreDone}
 use Rattle.sh_law.specs.Keeps.{IsCipher}

@@ -3,9 +3,9 @@ use Rattle.std.proofs.Common.{◌≡◌, ℕ, zero, suc, ◌+◌, ◌<◌, ◌�
 use Rattle.std.specs.Prelude.{map, ◌==◌, ◌||◌, if◌then◌else◌}
 use Rattle.std.proofs.lemmas.Bool.Decides.{nat_tests}
 use Rattle.sh_types.specs.declared.runs.Hart.{Hart}
-use Rattle.sh_types.specs.Need.{Outcome, Goes, Puts, Calls, Quits, Traps, Leaks, Need, answered, touched}
-use Rattle.sh_types.specs.Notes.{Note, with_words, Touched, noted, Ahead, over, touch, touch_if, more_stores, next_needs, is_stop, goes_ahead, ahead_from, set_off, ahead_of, notes_in, effects_in, notes_of, effects_of, Hold, is_noted, AreOnce}
-use Rattle.sh_types.specs.Shuffled.{Setting, Owned, moved_of}
+use Rattle.sh_machines.specs.Need.{Outcome, Goes, Puts, Calls, Quits, Traps, Leaks, Need, answered, touched}
+use Rattle.sh_machines.specs.Notes.{Note, with_words, Touched, noted, Ahead, over, touch, touch_if, more_stores, next_needs, is_stop, goes_ahead, ahead_from, set_off, ahead_of, notes_in, effects_in, notes_of, effects_of, Hold, is_noted, AreOnce}
+use Rattle.sh_machines.specs.Shuffled.{Setting, Owned, moved_of}
 
 -- ---- a word that is touched
 

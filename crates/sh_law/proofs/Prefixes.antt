@@ -4,9 +4,9 @@ use Rattle.std.proofs.lemmas.List.{append-nil}
 use Rattle.std.specs.Prelude.{◌&&◌}
 use Rattle.sh_types.specs.declared.code.Image.{Image}
 use Rattle.sh_types.specs.declared.runs.Event.{Event}
-use Rattle.sh_types.specs.Event.{after_event, shuffled_from, IsLegalFrom, state_after, IsLegalIn}
-use Rattle.sh_types.specs.Pace.{Pace, paced_on, followed, keeps_pace, all_keep, opening_pace, pace_after, IsPaced}
-use Rattle.sh_types.specs.Shuffled.{Setting, Shuffled, shuffled_start}
+use Rattle.sh_machines.specs.Event.{after_event, shuffled_from, IsLegalFrom, state_after, IsLegalIn}
+use Rattle.sh_machines.specs.Pace.{Pace, paced_on, followed, keeps_pace, all_keep, opening_pace, pace_after, IsPaced}
+use Rattle.sh_machines.specs.Shuffled.{Setting, Shuffled, shuffled_start}
 use Rattle.sh_law.proofs.Lists.{and_first, and_second}
 
 pub both_true : (a b : Bool) → a ≡ true → b ≡ true → (a && b) ≡ true

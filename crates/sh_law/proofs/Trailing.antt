@@ -6,14 +6,14 @@ use Rattle.sh_types.specs.declared.runs.Event.{Event}
 use Rattle.sh_types.specs.declared.runs.Event.TheVariants.{Run, Migrate, Publish, Erase}
 use Rattle.sh_types.specs.declared.runs.Hart.{Hart}
 use Rattle.sh_types.specs.declared.runs.Stored.{Stored}
-use Rattle.sh_types.specs.Environment.{CallDid, Answers, Reads, Starts, ExitsHart, ExitsRun, LeaksWord, call_of}
-use Rattle.sh_types.specs.Event.{instructions, can_run, can_all, migrated, migrate, is_off, all_on, after_event, is_allowed, state_after, IsLegalIn, written}
-use Rattle.sh_types.specs.Fine.{IsSetting}
-use Rattle.sh_types.specs.Need.{Outcome, Goes, Puts, Calls, Quits, Traps, Leaks, stored_at, kept_from}
-use Rattle.sh_types.specs.Next.{all_go, is_none, may_come}
-use Rattle.sh_types.specs.Pace.{Pace, live_from, without, is_among, paced_on, keeps_pace, pace_after, IsPaced}
-use Rattle.sh_types.specs.Shuffled.{Setting, Owned, Shuffled, set_hart, ended_hart, hart_loses, harts_lose, reserves_on, new_hart, after_call, hart_asks, after, moved_of, on_hart, shuffled_step}
-use Rattle.sh_types.specs.Unmoved.{Thread, Unmoved, is_alive, goes_still, can_go, unmoved_step, unmoved_run}
+use Rattle.sh_machines.specs.Environment.{CallDid, Answers, Reads, Starts, ExitsHart, ExitsRun, LeaksWord, call_of}
+use Rattle.sh_machines.specs.Event.{instructions, can_run, can_all, migrated, migrate, is_off, all_on, after_event, is_allowed, state_after, IsLegalIn, written}
+use Rattle.sh_machines.specs.Fine.{IsSetting}
+use Rattle.sh_machines.specs.Need.{Outcome, Goes, Puts, Calls, Quits, Traps, Leaks, stored_at, kept_from}
+use Rattle.sh_machines.specs.Next.{all_go, is_none, may_come}
+use Rattle.sh_machines.specs.Pace.{Pace, live_from, without, is_among, paced_on, keeps_pace, pace_after, IsPaced}
+use Rattle.sh_machines.specs.Shuffled.{Setting, Owned, Shuffled, set_hart, ended_hart, hart_loses, harts_lose, reserves_on, new_hart, after_call, hart_asks, after, moved_of, on_hart, shuffled_step}
+use Rattle.sh_machines.specs.Unmoved.{Thread, Unmoved, is_alive, goes_still, can_go, unmoved_step, unmoved_run}
 use Rattle.sh_law.specs.Keeps.{IsCipher}
 use Rattle.sh_law.specs.Paced.{AreOn, StandsPaced}
 use Rattle.sh_law.specs.Sound.{IsOn, Stays}

@@ -6,11 +6,11 @@ use Rattle.sh_types.specs.declared.code.RaPlace.TheVariants.{Reg}
 use Rattle.sh_types.specs.declared.code.Site.TheVariants.{Plain, Stop}
 use Rattle.sh_types.specs.declared.runs.Hart.{Hart}
 use Rattle.sh_types.specs.declared.runs.Stored.{Stored}
-use Rattle.sh_types.specs.Frame.{frame}
+use Rattle.sh_machines.specs.Frame.{frame}
 use Rattle.sh_types.specs.Limits.{cell_count, most_harts}
-use Rattle.sh_types.specs.Notes.{Note, notes_of, effects_of}
+use Rattle.sh_machines.specs.Notes.{Note, notes_of, effects_of}
 use Rattle.sh_types.specs.Place.{cell_start}
-use Rattle.sh_types.specs.Shuffled.{Setting, owned, Shuffled}
+use Rattle.sh_machines.specs.Shuffled.{Setting, owned, Shuffled}
 use Rattle.sh_law.specs.Example.{function, region, table, keys_from}
 
 -- a store-conditional without a reservation, and then a trap

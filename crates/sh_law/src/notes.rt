@@ -2,16 +2,16 @@
 ghost use Rattle.std.specs.Prelude.{◌≡◌, ℕ, ◌<◌, ◌≤◌, List, [], ◌∷◌, Some, None, true, slice_get, take};
 ghost use Rattle.sh_types.specs.declared.runs.Hart.{Hart};
 ghost use Rattle.sh_types.specs.declared.runs.Event.{Event};
-ghost use Rattle.sh_types.specs.Event.{IsLegalIn, can_run, state_after};
-ghost use Rattle.sh_types.specs.Fine.{IsSetting};
-ghost use Rattle.sh_types.specs.Notes.{AreOnce, Hold, effects_of, is_stop, notes_of, with_words};
-ghost use Rattle.sh_types.specs.Need.{stored_at};
-ghost use Rattle.sh_types.specs.Shuffled.{Setting, Owned, moved_of, shuffled_start};
+ghost use Rattle.sh_machines.specs.Event.{IsLegalIn, can_run, state_after};
+ghost use Rattle.sh_machines.specs.Fine.{IsSetting};
+ghost use Rattle.sh_machines.specs.Notes.{AreOnce, Hold, effects_of, is_stop, notes_of, with_words};
+ghost use Rattle.sh_machines.specs.Need.{stored_at};
+ghost use Rattle.sh_machines.specs.Shuffled.{Setting, Owned, moved_of, shuffled_start};
 ghost use Rattle.sh_law.specs.AheadExample.{note, tries_setting, turn_in};
 ghost use Rattle.sh_law.specs.Example.{example_events, example_setting};
 ghost use Rattle.sh_law.specs.Done.{AreDone};
 
-use sh_types::instructions_see_one_word;
+use sh_machines::instructions_see_one_word;
 
 /// Instructions that were run ahead have the same notes and effects over any words that have, where they touched them,
 /// the values and owners that were noted.

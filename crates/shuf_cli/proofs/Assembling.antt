@@ -2,7 +2,7 @@
 use Rattle.std.proofs.Common.{◌≡◌, ◌≤◌, ℕ, List, length, refl, sym, subst, arith}
 use Rattle.std.specs.Prelude.{Option, Some, None, Ok}
 use Rattle.asm_text.specs.declared.faults.LineFault.{LineFault}
-use Rattle.rv_asm.specs.declared.object.Object.{Object}
+use Rattle.sh_types.specs.declared.objects.Object.{Object}
 use Rattle.rv_asm.specs.Object.{object_of, Assembles}
 use Rattle.rv_asm.specs.Passes.{fault_of}
 use Rattle.elf_write.specs.Writable.{IsWritable}

@@ -3,12 +3,12 @@ use Rattle.std.proofs.Common.{◌≡◌, ◌≢◌, ◌≤◌, ℕ, zero, suc, L
 use Rattle.std.specs.Prelude.{Option, Some, None, nat_lt, if◌then◌else◌, Contains}
 use Rattle.sh_base.specs.Told.{FileAnswer}
 use Rattle.sh_types.specs.declared.code.Image.{Image}
-use Rattle.sh_types.specs.declared.refusals.LoadFault.{LoadFault}
+use Rattle.elf_rules.specs.declared.refusals.LoadFault.{LoadFault}
 use Rattle.sh_types.specs.declared.runs.End.{End}
 use Rattle.sh_types.specs.declared.runs.End.TheVariants.{Exit, Trapped, Leak}
-use Rattle.sh_types.specs.Accepted.{mapped_by, loaded_image, refusal_of}
-use Rattle.sh_types.specs.Elf.{segments_of}
-use Rattle.sh_types.specs.Thin.{thin_image}
+use Rattle.elf_rules.specs.Accepted.{mapped_by, loaded_image, refusal_of}
+use Rattle.elf_rules.specs.Elf.{segments_of}
+use Rattle.elf_rules.specs.Thin.{thin_image}
 use Rattle.asm_text.specs.declared.faults.LineFault.{LineFault}
 use Rattle.rv_asm.specs.Object.{object_of}
 use Rattle.rv_asm.specs.Passes.{fault_of}

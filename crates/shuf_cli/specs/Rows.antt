@@ -2,9 +2,9 @@
 use Rattle.std.specs.Prelude.{◌≡◌, ℕ, List, [], ◌∷◌, length, nat_lt, if◌then◌else◌, Option, Some, None, MatchOption, ⊤}
 use Rattle.sh_base.specs.Held.{FileMap, Loads}
 use Rattle.sh_base.specs.Told.{FileAnswer}
-use Rattle.sh_types.specs.declared.refusals.LoadFault.{LoadFault}
-use Rattle.sh_types.specs.Accepted.{mapped_by, loaded_image, refusal_of}
-use Rattle.sh_types.specs.Elf.{segments_of}
+use Rattle.elf_rules.specs.declared.refusals.LoadFault.{LoadFault}
+use Rattle.elf_rules.specs.Accepted.{mapped_by, loaded_image, refusal_of}
+use Rattle.elf_rules.specs.Elf.{segments_of}
 use Rattle.asm_text.specs.declared.faults.LineFault.{LineFault}
 use Rattle.rv_asm.specs.Object.{object_of}
 use Rattle.rv_asm.specs.Passes.{fault_of}

@@ -3,8 +3,8 @@ use Rattle.std.specs.Prelude.{ℕ, true, false, List, [], Option, Some, None, if
 use Rattle.sh_types.specs.declared.code.Image.{Image}
 use Rattle.sh_types.specs.declared.runs.End.{End}
 use Rattle.sh_types.specs.declared.runs.End.TheVariants.{Exit, Trapped, Leak}
-use Rattle.sh_types.specs.Serial.{Schedule, serial_list}
-use Rattle.sh_types.specs.Thin.{thin_image}
+use Rattle.sh_machines.specs.Serial.{Schedule, serial_list}
+use Rattle.elf_rules.specs.Thin.{thin_image}
 use Rattle.shuf_machine.specs.declared.answers.Origin.{Origin}
 use Rattle.shuf_machine.specs.Past.{Past, guest_of}
 use Rattle.shuf_machine.specs.Run.{image_of}

@@ -1,17 +1,18 @@
 //! What is due for a check of a file.
 ghost use Rattle.std.specs.Prelude.{◌≡◌, IfOk};
-ghost use Rattle.sh_types.specs.Accepted.{Accepts, mapped_by, loaded_image};
-ghost use Rattle.sh_types.specs.Coded.{IsCoded};
-ghost use Rattle.sh_types.specs.Elf.{segments_of};
+ghost use Rattle.elf_rules.specs.Accepted.{Accepts, mapped_by, loaded_image};
+ghost use Rattle.elf_rules.specs.Coded.{IsCoded};
+ghost use Rattle.elf_rules.specs.Elf.{segments_of};
 ghost use Rattle.image_text.specs.Listing.{listing_of};
 ghost use Rattle.shuf_cli.specs.Dues.{text_due};
 ghost use Rattle.shuf_cli.specs.Rows.{check_due};
 
 use crate::Due;
 use crate::lines::{refused, text};
+use elf_rules::LoadFault;
 use guest_image::{load_image, mapped_bytes};
 use image_text::listing;
-use sh_types::{Image, LoadFault, NoMemory};
+use sh_types::{Image, NoMemory};
 use std::alloc::Global;
 use std::thread::Threads;
 

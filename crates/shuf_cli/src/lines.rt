@@ -7,8 +7,9 @@ ghost use Rattle.shuf_cli.specs.Run.{not_built_due};
 
 use crate::Due;
 use asm_text::AsmRule;
+use elf_rules::LoadFault;
 use image_text::{refusal_line, source_line};
-use sh_types::{Bytes, LoadFault, NoMemory};
+use sh_types::{Bytes, NoMemory};
 use std::alloc::{AllocError, Global};
 
 /// A refusal: its line alone is due.

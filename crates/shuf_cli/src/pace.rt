@@ -1,6 +1,6 @@
 //! The law on the journal of a run.
 ghost use Rattle.std.specs.Prelude.{List, ℕ, ◌≤◌};
-ghost use Rattle.sh_types.specs.Pace.{IsPaced, pace_after};
+ghost use Rattle.sh_machines.specs.Pace.{IsPaced, pace_after};
 ghost use Rattle.shuf_machine.specs.Run.{image_of};
 ghost use Rattle.shuf_cli.specs.Limits.{default_period, default_steps};
 ghost use Rattle.shuf_cli.specs.Run.{no_input, past_of};

@@ -1,9 +1,9 @@
 //! What is due for a run of a file.
 ghost use Rattle.std.specs.Prelude.{◌≡◌, Some, true, IfOk};
-ghost use Rattle.sh_types.specs.Accepted.{Accepts, loaded_image};
-ghost use Rattle.sh_types.specs.Coded.{IsCoded};
-ghost use Rattle.sh_types.specs.Runnable.{IsRunnable};
-ghost use Rattle.sh_types.specs.Thin.{thin_image};
+ghost use Rattle.elf_rules.specs.Accepted.{Accepts, loaded_image};
+ghost use Rattle.elf_rules.specs.Coded.{IsCoded};
+ghost use Rattle.sh_machines.specs.Runnable.{IsRunnable};
+ghost use Rattle.elf_rules.specs.Thin.{thin_image};
 ghost use Rattle.shuf_machine.specs.Past.{guest_of};
 ghost use Rattle.shuf_cli.specs.Rows.{run_due};
 ghost use Rattle.shuf_cli.specs.Run.{run_status, ran_due, built_due, accepted_due, HasExited};
@@ -11,10 +11,11 @@ ghost use Rattle.shuf_cli.specs.Run.{run_status, ran_due, built_due, accepted_du
 use crate::Due;
 use crate::limits::{PERIOD, QUANTUM, STEPS, WORKERS};
 use crate::lines::{not_built, refused};
+use elf_rules::LoadFault;
 use guest_image::load_image;
 use hart_runner::{Plan, run_built};
 use period_report::{Form, report};
-use sh_types::{Bytes, End, Image, LoadFault, NoMemory};
+use sh_types::{Bytes, End, Image, NoMemory};
 use shuf_machine::{Machine, Origin};
 use std::alloc::Global;
 use std::thread::Threads;
@@ -78,7 +79,7 @@ fn of_image(alloc: Global, image: Image, file: Bytes, seed: &[u8; 32]) -> Result
 }
 
 /// Runs the image of the file, if the file is thin.
-#[tactic(auto, unfolding(sh_types::specs::Thin::thin_image))]
+#[tactic(auto, unfolding(elf_rules::specs::Thin::thin_image))]
 fn of_code(alloc: Global, image: Image, file: Bytes, seed: &[u8; 32]) -> Result<Due, NoMemory>
     requires accepted { Accepts file }
     requires image { image ≡ loaded_image file }

@@ -6,9 +6,9 @@ use Rattle.std.specs.Option.{option_map}
 use Rattle.std.proofs.Math.Path.{fun_ext}
 use Rattle.std.proofs.lemmas.Bool.Decides.{nat_tests}
 use Rattle.sh_types.specs.declared.code.Region.{Region}
-use Rattle.sh_types.specs.Memory.{is_in_region, can_write, each_from, readable, writable, byte_of, both_bytes, bytes_from}
-use Rattle.sh_types.specs.Need.{set_at, part_of, with_part, patched}
-use Rattle.sh_types.specs.Shuffled.{Owned, owned, value_if, plain_value, fill_owned, fills}
+use Rattle.sh_machines.specs.Memory.{is_in_region, can_write, each_from, readable, writable, byte_of, both_bytes, bytes_from}
+use Rattle.sh_machines.specs.Need.{set_at, part_of, with_part, patched}
+use Rattle.sh_machines.specs.Shuffled.{Owned, owned, value_if, plain_value, fill_owned, fills}
 
 and_first : (a b : Bool) → (a && b) ≡ true → a ≡ true
 and_first a b e = grind arith

@@ -6,13 +6,13 @@ use Rattle.sh_types.specs.declared.code.Image.{Image}
 use Rattle.sh_types.specs.declared.code.Region.{Region}
 use Rattle.sh_types.specs.declared.runs.Hart.{Hart}
 use Rattle.sh_types.specs.declared.runs.Stored.{Stored}
-use Rattle.sh_types.specs.Environment as defined
-use Rattle.sh_types.specs.Environment.{Answers, Reads, Starts, ExitsHart, ExitsRun, LeaksWord, Request, answer, failure, read_into, read_call, written_from, write_call, start_at, ended_call, call_of}
-use Rattle.sh_types.specs.Fine.{IsFine}
-use Rattle.sh_types.specs.Memory.{each_from, readable, writable, byte_of, both_bytes, bytes_from}
-use Rattle.sh_types.specs.Need.{Calls, stored_at}
-use Rattle.sh_types.specs.Shuffled.{Setting, Shuffled, left, set_hart, harts_lose, fills, new_hart, after_call, hart_asks, shuffled_step}
-use Rattle.sh_types.specs.Tokens.{token_of, row_named}
+use Rattle.sh_machines.specs.Environment as defined
+use Rattle.sh_machines.specs.Environment.{Answers, Reads, Starts, ExitsHart, ExitsRun, LeaksWord, Request, answer, failure, read_into, read_call, written_from, write_call, start_at, ended_call, call_of}
+use Rattle.sh_machines.specs.Fine.{IsFine}
+use Rattle.sh_machines.specs.Memory.{each_from, readable, writable, byte_of, both_bytes, bytes_from}
+use Rattle.sh_machines.specs.Need.{Calls, stored_at}
+use Rattle.sh_machines.specs.Shuffled.{Setting, Shuffled, left, set_hart, harts_lose, fills, new_hart, after_call, hart_asks, shuffled_step}
+use Rattle.sh_machines.specs.Tokens.{token_of, row_named}
 use Rattle.guest_calls.specs.declared.CallDid.{CallDid}
 use Rattle.guest_calls.specs.Answer.{answer_of}
 use Rattle.guest_calls.specs.Seen.{Seen, Put, put, after, request, called as called_of}

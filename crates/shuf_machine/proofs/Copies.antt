@@ -6,11 +6,11 @@ use Rattle.sh_types.specs.declared.code.Image.{Image}
 use Rattle.sh_types.specs.declared.code.Pair.{Pair}
 use Rattle.sh_types.specs.declared.layouts.CodeCopy.{CodeCopy}
 use Rattle.sh_types.specs.declared.layouts.Layout.{Layout}
-use Rattle.sh_types.specs.Copy.{copied, copy_of}
+use Rattle.sh_machines.specs.Copy.{copied, copy_of}
 use Rattle.sh_types.specs.Fetch.{InCopy, word_in}
 use Rattle.sh_types.specs.Place.{cell_start, whose_of}
-use Rattle.sh_types.specs.Shuffled.{ends_there, is_guard}
-use Rattle.sh_types.proofs.Copied.{copied_at, cell_length, guard_is}
+use Rattle.sh_machines.specs.Shuffled.{ends_there, is_guard}
+use Rattle.sh_machines.proofs.Copied.{copied_at, cell_length, guard_is}
 use Rattle.shuf_machine.specs.declared.state.Code.{Code}
 use Rattle.shuf_machine.specs.declared.state.Prepared.{Prepared}
 use Rattle.shuf_machine.specs.Meant.{IsCode, IsMade}

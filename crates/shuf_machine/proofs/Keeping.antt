@@ -3,11 +3,11 @@ use Rattle.std.proofs.Common.{◌≡◌, ℕ, zero, suc, ◌+◌, ◌-◌, ◌<�
 use Rattle.std.specs.Prelude.{slice_get, ◌==◌, ◌&&◌, nat_lt, if◌then◌else◌}
 use Rattle.std.proofs.lemmas.Bool.Decides.{nat_tests}
 use Rattle.sh_types.specs.declared.fetching.Fetched.{Fetched}
-use Rattle.sh_types.specs.Event.{instructions, can_run, can_all}
+use Rattle.sh_machines.specs.Event.{instructions, can_run, can_all}
 use Rattle.sh_types.specs.Fetch.{Tells}
 use Rattle.sh_types.specs.declared.runs.Hart.{Hart}
-use Rattle.sh_types.specs.Need.{Outcome, Goes, Puts, Calls, Quits, Traps, Leaks}
-use Rattle.sh_types.specs.Shuffled.{Setting, Owned, Shuffled, shuffled_step}
+use Rattle.sh_machines.specs.Need.{Outcome, Goes, Puts, Calls, Quits, Traps, Leaks}
+use Rattle.sh_machines.specs.Shuffled.{Setting, Owned, Shuffled, shuffled_step}
 use Rattle.sh_law.specs.Length.{is_calls, calls_in, IsWhole}
 use Rattle.shuf_machine.specs.Next.{next_outcome, layout_on, IsReached, IsWent, IsStill, IsStopped, IsQuiet}
 use Rattle.shuf_machine.specs.Ran.{IsRun, asked_by, asked_of, asked_in}

@@ -2,13 +2,13 @@
 use Rattle.std.proofs.Common.{◌≡◌, ℕ, zero, suc, ◌+◌, ◌-◌, ◌<◌, ◌≤◌, Bool, true, false, Option, Some, None, List, [], ◌∷◌, ◌++◌, take, drop, append-nil, refl, sym, ap, ◌∙◌, subst, arith}
 use Rattle.std.specs.Prelude.{slice_get, slice_set, ◌==◌, ◌&&◌, ◌||◌, not, nat_lt, min, max, is_some, map, if◌then◌else◌}
 use Rattle.std.proofs.lemmas.Bool.Decides.{nat_tests}
-use Rattle.sh_types.specs.declared.instructions.Reservation.{Reservation}
+use Rattle.rv_table.specs.declared.instructions.Reservation.{Reservation}
 use Rattle.sh_types.specs.declared.runs.Hart.{Hart}
 use Rattle.sh_types.specs.declared.runs.Stored.{Stored}
-use Rattle.sh_types.specs.Event.{can_run}
-use Rattle.sh_types.specs.Need.{kept_from}
+use Rattle.sh_machines.specs.Event.{can_run}
+use Rattle.sh_machines.specs.Need.{kept_from}
 use Rattle.sh_types.specs.declared.runs.End.{End}
-use Rattle.sh_types.specs.Shuffled.{Setting, Shuffled, left, reserves_on, hart_loses, harts_lose}
+use Rattle.sh_machines.specs.Shuffled.{Setting, Shuffled, left, reserves_on, hart_loses, harts_lose}
 use Rattle.shuf_machine.specs.Next.{any_reserved, layout_on, IsBegun, IsWent}
 
 -- ---- lists

@@ -11,17 +11,17 @@ use Rattle.sh_types.specs.declared.layouts.Layout.{Layout}
 use Rattle.sh_types.specs.declared.runs.Hart.{Hart}
 use Rattle.sh_types.specs.declared.runs.Stored.{Stored}
 use Rattle.sh_types.specs.declared.runs.Trap.TheVariants as trap
-use Rattle.sh_types.specs.Copy.{copied}
-use Rattle.sh_types.specs.Event.{with_harts, can_run, is_live}
+use Rattle.sh_machines.specs.Copy.{copied}
+use Rattle.sh_machines.specs.Event.{with_harts, can_run, is_live}
 use Rattle.sh_types.specs.Fetch.{InCopy, word_in, fetched}
 use Rattle.sh_types.specs.Image.{sizes_of}
-use Rattle.sh_types.specs.Kind.{Kind, Sets, Computes, Passes, Loads, Stores, Atomics, Saves, Restores, CallsTo, JumpsTo, Branches, CallsThrough, JumpsThrough, GoesBack, Asks, Breaks, Illegal, Past, Tables, tables_of}
-use Rattle.sh_types.specs.Memory.{readable, writable}
-use Rattle.sh_types.specs.Need.{Outcome, Goes, Puts, Calls, Quits, Traps, Leaks, Need, Makes, touching, answered, words_after, set_at, plus_imm}
-use Rattle.sh_types.specs.Operands.{both_ra, width_of, is_lr}
+use Rattle.sh_machines.specs.Kind.{Kind, Sets, Computes, Passes, Loads, Stores, Atomics, Saves, Restores, CallsTo, JumpsTo, Branches, CallsThrough, JumpsThrough, GoesBack, Asks, Breaks, Illegal, Past, Tables, tables_of}
+use Rattle.sh_machines.specs.Memory.{readable, writable}
+use Rattle.sh_machines.specs.Need.{Outcome, Goes, Puts, Calls, Quits, Traps, Leaks, Need, Makes, touching, answered, words_after, set_at}
+use Rattle.rv_table.specs.Operands.{plus_imm, both_ra, width_of, is_lr}
 use Rattle.sh_types.specs.Place.{whose_of, pair_or_first}
-use Rattle.sh_types.specs.Shuffled.{Setting, Owned, Shuffled, left, after, harts_lose, hart_loses, moved_of, on_hart, shuffled_step, hart_does, hart_needs, is_guard, kind_there, pair_of, load_owned, store_owned, reserve_owned, atomic_owned, save_owned, take_owned}
-use Rattle.sh_types.specs.StandsFor.{layout_number}
+use Rattle.sh_machines.specs.Shuffled.{Setting, Owned, Shuffled, left, after, harts_lose, hart_loses, moved_of, on_hart, shuffled_step, hart_does, hart_needs, is_guard, kind_there, pair_of, load_owned, store_owned, reserve_owned, atomic_owned, save_owned, take_owned}
+use Rattle.sh_machines.specs.StandsFor.{layout_number}
 use Rattle.sh_law.specs.Length.{is_calls, hart_calls, calls_in}
 use Rattle.hart_step.specs.declared.answers.Did.{Did}
 use Rattle.hart_step.specs.Did.{did_as, touched_by, did_of, hart_after}

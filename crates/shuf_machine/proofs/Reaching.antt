@@ -6,17 +6,18 @@ use Rattle.sh_types.specs.declared.layouts.CodeCopy.{CodeCopy}
 use Rattle.sh_types.specs.declared.layouts.Layout.{Layout}
 use Rattle.sh_types.specs.declared.runs.Event.TheVariants.{Run}
 use Rattle.sh_types.specs.declared.runs.Hart.{Hart}
-use Rattle.sh_types.specs.Copy.{copied, copy_of}
-use Rattle.sh_types.specs.Event.{can_run, Allowed, state_after, written}
+use Rattle.sh_machines.specs.Copy.{copied, copy_of}
+use Rattle.sh_machines.specs.Event.{can_run, Allowed, state_after, written}
 use Rattle.sh_types.specs.Fetch.{InCopy, word_in}
-use Rattle.sh_types.specs.Fine.{IsSetting}
-use Rattle.sh_types.specs.Kind.{tables_of}
-use Rattle.sh_types.specs.Need.{Outcome, Goes, Puts, Calls, Quits, Traps, Leaks, plus_imm, answered}
+use Rattle.sh_machines.specs.Fine.{IsSetting}
+use Rattle.sh_machines.specs.Kind.{tables_of}
+use Rattle.sh_machines.specs.Need.{Outcome, Goes, Puts, Calls, Quits, Traps, Leaks, answered}
+use Rattle.rv_table.specs.Operands.{plus_imm}
 use Rattle.sh_types.specs.Place.{IsPair, WellPlaced, place_of}
-use Rattle.sh_types.specs.Shuffled.{Setting, Owned, Shuffled, shuffled_step, kind_there, moved_of}
-use Rattle.sh_types.specs.StandsFor.{HartStands, HartsStand, layout_number, layouts_of}
-use Rattle.sh_types.specs.Unmoved.{Thread, Content, Unmoved, thread_needs, unmoved_run}
-use Rattle.sh_types.proofs.Copied.{place_in_copy, cell_length}
+use Rattle.sh_machines.specs.Shuffled.{Setting, Owned, Shuffled, shuffled_step, kind_there, moved_of}
+use Rattle.sh_machines.specs.StandsFor.{HartStands, HartsStand, layout_number, layouts_of}
+use Rattle.sh_machines.specs.Unmoved.{Thread, Content, Unmoved, thread_needs, unmoved_run}
+use Rattle.sh_machines.proofs.Copied.{place_in_copy, cell_length}
 use Rattle.sh_law.specs.Agrees.{Both, Agrees}
 use Rattle.sh_law.specs.Reach.{IsPlaced}
 use Rattle.sh_law.specs.Sound.{IsOn, Stays}

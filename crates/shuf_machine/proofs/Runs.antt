@@ -5,11 +5,11 @@ use Rattle.sh_types.specs.declared.runs.End.{End}
 use Rattle.sh_types.specs.declared.runs.Event.{Event}
 use Rattle.sh_types.specs.declared.runs.Event.TheVariants.{Run}
 use Rattle.sh_types.specs.declared.runs.Hart.{Hart}
-use Rattle.sh_types.specs.Event.{instructions, can_run, can_all, is_live, Allowed, state_after, IsLegalIn, written}
-use Rattle.sh_types.specs.Fine.{IsSetting}
-use Rattle.sh_types.specs.Serial.{run_length}
-use Rattle.sh_types.specs.Shuffled.{Setting, Shuffled}
-use Rattle.sh_types.specs.Unmoved.{goes_still, unmoved_run}
+use Rattle.sh_machines.specs.Event.{instructions, can_run, can_all, is_live, Allowed, state_after, IsLegalIn, written}
+use Rattle.sh_machines.specs.Fine.{IsSetting}
+use Rattle.sh_machines.specs.Serial.{run_length}
+use Rattle.sh_machines.specs.Shuffled.{Setting, Shuffled}
+use Rattle.sh_machines.specs.Unmoved.{goes_still, unmoved_run}
 use Rattle.sh_law.specs.Length.{IsWhole}
 use Rattle.shuf_machine.specs.declared.answers.No.TheVariants.{NoHart}
 use Rattle.shuf_machine.specs.declared.state.Code.{Code}

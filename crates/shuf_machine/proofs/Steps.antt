@@ -7,12 +7,12 @@ use Rattle.sh_types.specs.declared.runs.End.{End}
 use Rattle.sh_types.specs.declared.runs.Event.{Event}
 use Rattle.sh_types.specs.declared.runs.Event.TheVariants.{Run}
 use Rattle.sh_types.specs.declared.runs.Hart.{Hart}
-use Rattle.sh_types.specs.Environment.{CallDid, Answers, Reads, Starts, ExitsHart, ExitsRun, LeaksWord, call_of}
-use Rattle.sh_types.specs.Event.{instructions, is_live, can_run, can_all, Allowed}
+use Rattle.sh_machines.specs.Environment.{CallDid, Answers, Reads, Starts, ExitsHart, ExitsRun, LeaksWord, call_of}
+use Rattle.sh_machines.specs.Event.{instructions, is_live, can_run, can_all, Allowed}
 use Rattle.sh_types.specs.Fetch.{Tells}
-use Rattle.sh_types.specs.Need.{Outcome, Goes, Puts, Calls, Quits, Traps, Leaks}
-use Rattle.sh_types.specs.Shuffled.{Setting, Owned, Shuffled, after_call, after, hart_asks, moved_of, on_hart, shuffled_step}
-use Rattle.sh_types.specs.Unmoved.{goes_still}
+use Rattle.sh_machines.specs.Need.{Outcome, Goes, Puts, Calls, Quits, Traps, Leaks}
+use Rattle.sh_machines.specs.Shuffled.{Setting, Owned, Shuffled, after_call, after, hart_asks, moved_of, on_hart, shuffled_step}
+use Rattle.sh_machines.specs.Unmoved.{goes_still}
 use Rattle.shuf_machine.specs.Ran.{asked_by, asked_of}
 
 -- ---- what can_run says

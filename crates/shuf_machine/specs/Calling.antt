@@ -3,12 +3,12 @@ use Rattle.std.specs.Prelude.{◌≡◌, ℕ, ◌+◌, ◌<◌, ◌≤◌, Bool,
 use Rattle.sh_types.specs.declared.code.Region.{Region}
 use Rattle.sh_types.specs.declared.runs.End.TheVariants as end
 use Rattle.sh_types.specs.declared.runs.Hart.{Hart}
-use Rattle.sh_types.specs.Environment as defined
-use Rattle.sh_types.specs.Environment.{Answers, Reads, Starts, ExitsHart, ExitsRun, LeaksWord, Request, call_of}
+use Rattle.sh_machines.specs.Environment as defined
+use Rattle.sh_machines.specs.Environment.{Answers, Reads, Starts, ExitsHart, ExitsRun, LeaksWord, Request, call_of}
 use Rattle.sh_types.specs.Image.{sizes_of}
-use Rattle.sh_types.specs.Memory.{bytes_from, writable}
-use Rattle.sh_types.specs.Need.{stored_at}
-use Rattle.sh_types.specs.Shuffled.{Setting, Shuffled, left, set_hart, hart_ends, stopped, pair_of, harts_lose, fills, new_hart, plain_value, hart_asks}
+use Rattle.sh_machines.specs.Memory.{bytes_from, writable}
+use Rattle.sh_machines.specs.Need.{stored_at}
+use Rattle.sh_machines.specs.Shuffled.{Setting, Shuffled, left, set_hart, hart_ends, stopped, pair_of, harts_lose, fills, new_hart, plain_value, hart_asks}
 use Rattle.guest_calls.specs.declared.CallDid.{CallDid}
 use Rattle.guest_calls.specs.declared.CallDid.TheVariants as did
 use Rattle.guest_calls.specs.Seen.{Seen, Put, put, filled}

@@ -3,15 +3,16 @@ use Rattle.std.specs.Prelude.{◌≡◌, ℕ, ℤ, ◌/◌, ◌≤◌, true, Lis
 use Rattle.sh_types.specs.declared.layouts.Layout.{Layout}
 use Rattle.sh_types.specs.declared.runs.Event.{Event}
 use Rattle.sh_types.specs.declared.runs.Hart.{Hart}
-use Rattle.sh_types.specs.Chain.{Sound}
-use Rattle.sh_types.specs.Copy.{copied}
-use Rattle.sh_types.specs.Event.{state_after, IsLegalIn, written}
-use Rattle.sh_types.specs.Fine.{IsSetting}
-use Rattle.sh_types.specs.Kind.{Restores, tables_of}
-use Rattle.sh_types.specs.Need.{answered, plus_imm}
-use Rattle.sh_types.specs.Shuffled.{Setting, Owned, moved_of, kind_there}
-use Rattle.sh_types.specs.StandsFor.{HartStands, RunsAs, WordsStand}
-use Rattle.sh_types.specs.Unmoved.{Thread, Content, thread_needs, unmoved_run}
+use Rattle.sh_machines.specs.Chain.{Sound}
+use Rattle.sh_machines.specs.Copy.{copied}
+use Rattle.sh_machines.specs.Event.{state_after, IsLegalIn, written}
+use Rattle.sh_machines.specs.Fine.{IsSetting}
+use Rattle.sh_machines.specs.Kind.{Restores, tables_of}
+use Rattle.sh_machines.specs.Need.{answered}
+use Rattle.rv_table.specs.Operands.{plus_imm}
+use Rattle.sh_machines.specs.Shuffled.{Setting, Owned, moved_of, kind_there}
+use Rattle.sh_machines.specs.StandsFor.{HartStands, RunsAs, WordsStand}
+use Rattle.sh_machines.specs.Unmoved.{Thread, Content, thread_needs, unmoved_run}
 use Rattle.sh_law.specs.Agrees.{Agrees}
 use Rattle.sh_law.specs.Reach.{IsPlaced}
 use Rattle.sh_law.specs.Sound.{IsOn, Stays}

@@ -3,13 +3,14 @@ use Rattle.std.specs.Prelude.{◌≡◌, ℕ, ℤ, ◌<◌, ◌≤◌, ◌/◌, 
 use Rattle.sh_types.specs.declared.runs.Event.{Event}
 use Rattle.sh_types.specs.declared.runs.Hart.{Hart}
 use Rattle.sh_types.specs.declared.runs.Stored.{Stored}
-use Rattle.sh_types.specs.Copy.{copied}
-use Rattle.sh_types.specs.Event.{instructions, can_run, can_all, state_after, IsLegalIn}
+use Rattle.sh_machines.specs.Copy.{copied}
+use Rattle.sh_machines.specs.Event.{instructions, can_run, can_all, state_after, IsLegalIn}
 use Rattle.sh_types.specs.Fetch.{InCopy, word_in}
-use Rattle.sh_types.specs.Kind.{Restores, tables_of}
-use Rattle.sh_types.specs.Need.{Outcome, Goes, Puts, Calls, Quits, Traps, Leaks, plus_imm}
-use Rattle.sh_types.specs.Shuffled.{Setting, Owned, Shuffled, left, harts_lose, moved_of, shuffled_step, kind_there}
-use Rattle.sh_types.specs.StandsFor.{layout_number}
+use Rattle.sh_machines.specs.Kind.{Restores, tables_of}
+use Rattle.sh_machines.specs.Need.{Outcome, Goes, Puts, Calls, Quits, Traps, Leaks}
+use Rattle.rv_table.specs.Operands.{plus_imm}
+use Rattle.sh_machines.specs.Shuffled.{Setting, Owned, Shuffled, left, harts_lose, moved_of, shuffled_step, kind_there}
+use Rattle.sh_machines.specs.StandsFor.{layout_number}
 use Rattle.sh_law.specs.Length.{is_calls, calls_in}
 use Rattle.hart_step.specs.declared.answers.Did.{Did}
 use Rattle.hart_step.specs.declared.answers.Did.TheVariants.{Went, Call, HartEnd, Trapped, Leak}

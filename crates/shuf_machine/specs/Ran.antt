@@ -2,9 +2,9 @@
 use Rattle.std.specs.Prelude.{◌≡◌, ℕ, zero, suc, ◌&&◌, nat_lt, Option, Some, None, List, [], ◌∷◌, ◌++◌, slice_get, if◌then◌else◌}
 use Rattle.sh_types.specs.declared.fetching.Fetched.{Fetched}
 use Rattle.sh_types.specs.declared.runs.Hart.{Hart}
-use Rattle.sh_types.specs.Event.{instructions, can_run}
+use Rattle.sh_machines.specs.Event.{instructions, can_run}
 use Rattle.sh_types.specs.Fetch.{fetched}
-use Rattle.sh_types.specs.Shuffled.{Setting, Shuffled, shuffled_step}
+use Rattle.sh_machines.specs.Shuffled.{Setting, Shuffled, shuffled_step}
 use Rattle.sh_law.specs.Length.{IsWhole}
 
 -- the word that an instruction of this hart asks for

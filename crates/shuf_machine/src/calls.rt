@@ -2,10 +2,10 @@
 //! arguments are in a0 to a3, and the answer goes to a0.
 ghost use Rattle.std.specs.Prelude.{◌≡◌, ℕ, ◌+◌, ◌-◌, ◌<◌, ◌≤◌, ◌^◌, ◌++◌, [], ◌∷◌, Some, None, true, length, take, OnOk, OnErr, slice_get, slice_set, vec_len, vec_capacity};
 ghost use Rattle.guest_mem.specs.Held.{regions_of};
-ghost use Rattle.sh_types.specs.Event.{can_run};
-ghost use Rattle.sh_types.specs.Need.{Calls, stored_at};
-ghost use Rattle.sh_types.specs.Shuffled.{left, set_hart, harts_lose, fills, new_hart, shuffled_step};
-ghost use Rattle.sh_types.specs.Unmoved.{start_regs as start_regs_of};
+ghost use Rattle.sh_machines.specs.Event.{can_run};
+ghost use Rattle.sh_machines.specs.Need.{Calls, stored_at};
+ghost use Rattle.sh_machines.specs.Shuffled.{left, set_hart, harts_lose, fills, new_hart, shuffled_step};
+ghost use Rattle.sh_machines.specs.Unmoved.{start_regs as start_regs_of};
 ghost use Rattle.shuf_machine.specs.Calling.{CanAct, CanRead, CanStart, acted};
 ghost use Rattle.shuf_machine.specs.Meant.{meant, IsCode, IsMade, IsMapped};
 ghost use Rattle.shuf_machine.specs.Next.{IsReached, next_outcome};

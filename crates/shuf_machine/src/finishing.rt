@@ -1,10 +1,10 @@
 //! Instructions that end a hart or the run.
 ghost use Rattle.std.specs.Prelude.{◌≡◌, ◌-◌, ◌<◌, ◌^◌, ◌%◌, None, true, false, vec_len};
 ghost use Rattle.guest_mem.specs.Held.{regions_of};
-ghost use Rattle.sh_types.specs.Event.{can_run};
-ghost use Rattle.sh_types.specs.Need.{Quits, Traps, Leaks};
+ghost use Rattle.sh_machines.specs.Event.{can_run};
+ghost use Rattle.sh_machines.specs.Need.{Quits, Traps, Leaks};
 ghost use Rattle.sh_types.specs.Place.{whose_of, pair_or_first};
-ghost use Rattle.sh_types.specs.Shuffled.{any_live as any_live_of, first_code as first_code_of, hart_ends, stopped};
+ghost use Rattle.sh_machines.specs.Shuffled.{any_live as any_live_of, first_code as first_code_of, hart_ends, stopped};
 ghost use Rattle.shuf_machine.specs.Meant.{meant, IsCode, IsMapped};
 ghost use Rattle.shuf_machine.specs.Next.{IsNext, IsStopped, next_outcome};
 ghost use Rattle.shuf_machine.specs.Run.{setting_of};

@@ -1,6 +1,6 @@
 //! Which harts can go, and what they run from.
 ghost use Rattle.std.specs.Prelude.{◌≡◌, ◌<◌, true, None, Some, slice_get, vec_len};
-ghost use Rattle.sh_types.specs.Event.{can_run};
+ghost use Rattle.sh_machines.specs.Event.{can_run};
 ghost use Rattle.shuf_machine.specs.Laws.{Laws};
 ghost use Rattle.shuf_machine.specs.Meant.{meant, IsCode, IsMade};
 ghost use Rattle.shuf_machine.specs.Next.{IsReached, layout_on};

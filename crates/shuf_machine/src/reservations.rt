@@ -1,15 +1,16 @@
 //! Reservations that a store of another hart takes (RISC-V Unprivileged ISA, "A" extension,
 //! "Load-Reserved/Store-Conditional Instructions").
 ghost use Rattle.std.specs.Prelude.{◌≡◌, map};
-ghost use Rattle.sh_types.specs.Need.{shares as shares_of, kept_from};
-ghost use Rattle.sh_types.specs.Shuffled.{hart_loses};
+ghost use Rattle.sh_machines.specs.Need.{shares as shares_of, kept_from};
+ghost use Rattle.sh_machines.specs.Shuffled.{hart_loses};
 ghost use Rattle.shuf_machine.specs.Next.{any_reserved as any_reserved_of};
 
-use sh_types::{Hart, Reservation, Stored};
+use rv_table::Reservation;
+use sh_types::{Hart, Stored};
 
 /// Whether a byte is among those of the reservation and those that were stored. Ends are compared in 128 bits, as a range
 /// may end at 2^64.
-#[tactic(auto, unfolding(sh_types::specs::Need::shares))]
+#[tactic(auto, unfolding(sh_machines::specs::Need::shares))]
 fn shares(reservation: Reservation, stored: Stored) -> bool
     ensures { result ≡ shares_of reservation stored }
 {

@@ -1,9 +1,9 @@
 //! Instructions of one hart, as one event.
 ghost use Rattle.std.specs.Prelude.{◌≡◌, ◌+◌, ◌<◌, ◌≤◌, ◌^◌, ◌++◌, [], ◌∷◌, IfOk, IfErr, OnErr};
-ghost use Rattle.sh_types.specs.Event.{Allowed, written};
+ghost use Rattle.sh_machines.specs.Event.{Allowed, written};
 ghost use Rattle.sh_types.specs.Fetch.{Tells};
-ghost use Rattle.sh_types.specs.Serial.{run_length};
-ghost use Rattle.sh_types.specs.Unmoved.{unmoved_run};
+ghost use Rattle.sh_machines.specs.Serial.{run_length};
+ghost use Rattle.sh_machines.specs.Unmoved.{unmoved_run};
 ghost use Rattle.shuf_machine.specs.Meant.{meant, IsMachine};
 ghost use Rattle.shuf_machine.specs.Ran.{IsRun, asked_in};
 ghost use Rattle.shuf_machine.specs.Refusal.{IsCause, run_no};

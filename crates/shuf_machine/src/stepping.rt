@@ -1,9 +1,9 @@
 //! Instructions of one hart, from the copy of the layout that it is on.
 ghost use Rattle.std.specs.Prelude.{◌≡◌, ◌+◌, ◌-◌, ◌<◌, ◌≤◌, ◌^◌, true, false, [], None, IfOk, OnErr, slice_get, vec_len};
 ghost use Rattle.guest_mem.specs.Held.{regions_of};
-ghost use Rattle.sh_types.specs.Event.{can_run, instructions};
+ghost use Rattle.sh_machines.specs.Event.{can_run, instructions};
 ghost use Rattle.sh_types.specs.Fetch.{Tells};
-ghost use Rattle.sh_types.specs.Shuffled.{left, harts_lose};
+ghost use Rattle.sh_machines.specs.Shuffled.{left, harts_lose};
 ghost use Rattle.shuf_machine.specs.Meant.{meant, IsCode, IsMapped};
 ghost use Rattle.shuf_machine.specs.Next.{Begins, IsNext, IsQuiet, IsReached, Steps, any_reserved as any_reserved_of};
 ghost use Rattle.shuf_machine.specs.Ran.{IsRun, asked_by, asked_in};

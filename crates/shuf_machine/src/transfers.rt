@@ -1,8 +1,8 @@
 //! Bytes that environment calls write and read.
 ghost use Rattle.std.specs.Prelude.{◌≡◌, ◌++◌, true, [], length, length as length_of, IsSome, OnOk, OnErr, unwrap_or};
 ghost use Rattle.guest_mem.specs.Held.{words_of, plain_of, regions_of};
-ghost use Rattle.sh_types.specs.Memory.{readable, writable, bytes_from};
-ghost use Rattle.sh_types.specs.Shuffled.{fills};
+ghost use Rattle.sh_machines.specs.Memory.{readable, writable, bytes_from};
+ghost use Rattle.sh_machines.specs.Shuffled.{fills};
 
 use guest_mem::GuestMem;
 use sh_types::NoMemory;

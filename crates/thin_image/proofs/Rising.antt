@@ -4,7 +4,7 @@ use Rattle.std.specs.Prelude.{slice_index}
 use Rattle.std.proofs.lemmas.List.{length-map}
 use Rattle.sh_types.specs.declared.code.Function.{Function}
 use Rattle.sh_types.specs.declared.code.Image.{Image}
-use Rattle.sh_types.specs.Coded.{IsCoded}
+use Rattle.elf_rules.specs.Coded.{IsCoded}
 use Rattle.sh_types.specs.Image.{starts_of}
 use Rattle.thin_image.specs.LaidOut.{IsRising, IsLaidOut}
 

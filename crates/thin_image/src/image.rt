@@ -1,9 +1,9 @@
 //! Thin images with their classes and frames.
 ghost use Rattle.std.specs.Prelude.{◌≡◌, ◌<◌, IfOk, IfSome, None, Some, if◌then◌else◌, length};
-ghost use Rattle.sh_types.specs.Coded.{IsCoded};
+ghost use Rattle.elf_rules.specs.Coded.{IsCoded};
 ghost use Rattle.sh_types.specs.Image.{starts_of};
-ghost use Rattle.sh_types.specs.Runnable.{IsRunnable};
-ghost use Rattle.sh_types.specs.Thin.{classified, is_thin};
+ghost use Rattle.sh_machines.specs.Runnable.{IsRunnable};
+ghost use Rattle.elf_rules.specs.Thin.{classified, is_thin};
 ghost use Rattle.thin_image.specs.LaidOut.{IsLaidOut, IsRising};
 
 use crate::frames::all_frames;
@@ -15,7 +15,7 @@ use std::alloc::{AllocError, Global};
 use thin_law::thin_images_are_runnable;
 
 /// Whether the first stack is all that can be read, and each function has the words of a thin file.
-#[tactic(auto, unfolding(sh_types::specs::Thin::is_thin))]
+#[tactic(auto, unfolding(elf_rules::specs::Thin::is_thin))]
 fn is_thin(image: &Image, starts: &[u64]) -> bool
     requires starts { starts.now ≡ starts_of image.now.functions }
     requires rising { IsRising starts.now }
@@ -28,7 +28,7 @@ fn is_thin(image: &Image, starts: &[u64]) -> bool
 }
 
 /// The image with the classes and frames of a thin one.
-#[tactic(auto, unfolding(sh_types::specs::Thin::classified))]
+#[tactic(auto, unfolding(elf_rules::specs::Thin::classified))]
 fn classified(alloc: Global, image: Image, starts: &[u64]) -> Result<Image, AllocError>
     requires starts { starts.now ≡ starts_of image.functions }
     requires rising { IsRising starts.now }

@@ -1,13 +1,14 @@
 //! The classes of the words of thin functions.
 ghost use Rattle.std.specs.Prelude.{◌≡◌, ◌+◌, ◌*◌, ◌<◌, ◌^◌, IfOk, length, map};
 ghost use Rattle.std.specs.List.{zip};
-ghost use Rattle.sh_types.specs.Decoding.{decoded};
-ghost use Rattle.sh_types.specs.Thin as thin;
+ghost use Rattle.rv_table.specs.Decoding.{decoded};
+ghost use Rattle.elf_rules.specs.Thin as thin;
 ghost use Rattle.thin_image.specs.LaidOut.{IsLaidOut, IsRising};
 
 use crate::words::{callee_of, is_ecall, is_jal, is_jalr};
 use rv_decode::decode;
-use sh_types::{Instr, Items, Site};
+use rv_table::Instr;
+use sh_types::{Items, Site};
 use std::alloc::{AllocError, Global};
 
 fn call_site(callee: Option<u32>) -> Site
@@ -19,7 +20,7 @@ fn call_site(callee: Option<u32>) -> Site
     }
 }
 
-#[tactic(auto, unfolding(sh_types::specs::Thin::instr_site))]
+#[tactic(auto, unfolding(elf_rules::specs::Thin::instr_site))]
 fn instr_site(starts: &[u64], address: u64, instr: Instr) -> Site
     requires { IsRising starts.now }
     ensures { result ≡ thin.instr_site starts.now address instr }

@@ -1,12 +1,13 @@
 //! The words that thin functions have (RISC-V Unprivileged ISA, "RV32I Base Integer Instruction Set").
 ghost use Rattle.std.specs.Prelude.{◌≡◌, ◌+◌, ◌*◌, ◌<◌, ◌^◌, length};
-ghost use Rattle.sh_types.specs.Decoding.{decoded};
-ghost use Rattle.sh_types.specs.Thin as thin;
+ghost use Rattle.rv_table.specs.Decoding.{decoded};
+ghost use Rattle.elf_rules.specs.Thin as thin;
 ghost use Rattle.thin_image.specs.LaidOut.{IsLaidOut, IsRising};
 
 use crate::starts::number_of;
 use rv_decode::decode;
-use sh_types::{Instr, Items, Op};
+use rv_table::{Instr, Op};
+use sh_types::Items;
 
 /// `ret`, JALR x0,0(x1).
 const RETURN: u32 = 0x0000_8067;
@@ -17,7 +18,7 @@ fn computes(op: Op) -> bool
     matches!(op, Op::Lui | Op::Addi | Op::Add)
 }
 
-#[tactic(auto, unfolding(sh_types::specs::Thin::is_plain))]
+#[tactic(auto, unfolding(elf_rules::specs::Thin::is_plain))]
 fn is_plain(instr: Instr) -> bool
     ensures { result ≡ thin.is_plain instr }
 {
@@ -31,7 +32,7 @@ fn is_addi(op: Op) -> bool
 }
 
 /// Whether the instruction is `addi sp,sp,imm`.
-#[tactic(auto, unfolding(sh_types::specs::Thin::moves_sp))]
+#[tactic(auto, unfolding(elf_rules::specs::Thin::moves_sp))]
 pub fn moves_sp(instr: Instr) -> bool
     ensures { result ≡ thin.moves_sp instr }
 {
@@ -79,7 +80,7 @@ pub fn callee_of(starts: &[u64], address: u64, instr: Instr) -> Option<u32>
     number_of(starts, jump_target(address, instr))
 }
 
-#[tactic(auto, unfolding(sh_types::specs::Thin::is_call))]
+#[tactic(auto, unfolding(elf_rules::specs::Thin::is_call))]
 fn is_call(starts: &[u64], entry: u64, address: u64, instr: Instr) -> bool
     requires { IsRising starts.now }
     ensures { result ≡ thin.is_call starts.now entry address instr }
@@ -90,7 +91,7 @@ fn is_call(starts: &[u64], entry: u64, address: u64, instr: Instr) -> bool
         && jump_target(address, instr) != entry
 }
 
-#[tactic(auto, unfolding(sh_types::specs::Thin::is_entry_instr))]
+#[tactic(auto, unfolding(elf_rules::specs::Thin::is_entry_instr))]
 fn is_entry_instr(starts: &[u64], entry: u64, address: u64, instr: Instr) -> bool
     requires { IsRising starts.now }
     ensures { result ≡ thin.is_entry_instr starts.now entry address instr }
@@ -151,7 +152,7 @@ fn are_plain_words(words: &[u32]) -> bool
     false
 }
 
-#[tactic(auto, unfolding(sh_types::specs::Thin::is_thin_function))]
+#[tactic(auto, unfolding(elf_rules::specs::Thin::is_thin_function))]
 fn is_thin_function(starts: &[u64], entry: u64, start: u64, words: &[u32]) -> bool
     requires rising { IsRising starts.now }
     requires low { start + 4 * length words.now < 2 ^ 32 }

@@ -9,20 +9,20 @@ use Rattle.sh_types.specs.declared.code.Pair.{Pair}
 use Rattle.sh_types.specs.declared.code.RaPlace.{RaPlace}
 use Rattle.sh_types.specs.declared.code.RaPlace.TheVariants.{Reg, Slot, Dropped}
 use Rattle.sh_types.specs.declared.code.Site.{Site}
-use Rattle.sh_types.specs.declared.instructions.Instr.{Instr}
-use Rattle.sh_types.specs.declared.instructions.Op.{Op}
-use Rattle.sh_types.specs.declared.instructions.Op.TheVariants.{Lui, Addi, Add, Sb, Jal, Ecall}
-use Rattle.sh_types.specs.Constants.{constant_at}
-use Rattle.sh_types.specs.Copy.{saves, restores}
-use Rattle.sh_types.specs.Decoding.{made}
-use Rattle.sh_types.specs.Fine.{SiteFits}
-use Rattle.sh_types.specs.Frame.{frame, Move, Loses, Keeps, move_of, shift_of, IsLoose, dropped, MayDrop, Shifted, To, Anew, AfterMove, Follows}
+use Rattle.rv_table.specs.declared.instructions.Instr.{Instr}
+use Rattle.rv_table.specs.declared.instructions.Op.{Op}
+use Rattle.rv_table.specs.declared.instructions.Op.TheVariants.{Lui, Addi, Add, Sb, Jal, Ecall}
+use Rattle.sh_machines.specs.Constants.{constant_at}
+use Rattle.sh_machines.specs.Copy.{saves, restores}
+use Rattle.rv_table.specs.Decoding.{made}
+use Rattle.sh_machines.specs.Fine.{SiteFits}
+use Rattle.sh_machines.specs.Frame.{frame, Move, Loses, Keeps, move_of, shift_of, IsLoose, dropped, MayDrop, Shifted, To, Anew, AfterMove, Follows}
 use Rattle.sh_types.specs.Image.{sizes_of, row_at, number_of}
-use Rattle.sh_types.specs.Instruction.{row_of, IsSigned}
-use Rattle.sh_types.specs.Kind.{framed_kind, plain_kind, site_kind}
-use Rattle.sh_types.specs.Need.{number_of_imm}
-use Rattle.sh_types.specs.Thin.{computes, is_addi, is_sb, is_ecall, is_jal, is_plain, moves_sp, is_call, is_entry_instr, callee_of, jump_target, call_site, instr_site, small_depth, state_behind, entered}
-use Rattle.sh_types.specs.Unmoved.{next_of}
+use Rattle.rv_table.specs.Instruction.{row_of, IsSigned}
+use Rattle.sh_machines.specs.Kind.{framed_kind, plain_kind, site_kind}
+use Rattle.rv_table.specs.Operands.{number_of_imm}
+use Rattle.elf_rules.specs.Thin.{computes, is_addi, is_sb, is_ecall, is_jal, is_plain, moves_sp, is_call, is_entry_instr, callee_of, jump_target, call_site, instr_site, small_depth, state_behind, entered}
+use Rattle.sh_machines.specs.Unmoved.{next_of}
 use Rattle.thin_law.proofs.States.{IsOpen, plain_parts, plain_state, return_instr, Shift, Back, New, shifted}
 
 keeps : (rd : ℕ) (m : Move) → (rd == 1) ≡ false → (rd == 2) ≡ false → move_of rd m ≡ Keeps

@@ -9,19 +9,19 @@ use Rattle.sh_types.specs.declared.code.Pair.{Pair}
 use Rattle.sh_types.specs.declared.code.Region.{Region}
 use Rattle.sh_types.specs.declared.code.Site.{Site}
 use Rattle.sh_types.specs.declared.code.Site.TheVariants.{Plain}
-use Rattle.sh_types.specs.declared.instructions.Instr.{Instr}
-use Rattle.sh_types.specs.declared.refusals.LoadFault.{LoadFault}
-use Rattle.sh_types.specs.Decoding.{decoded}
-use Rattle.sh_types.specs.Accepted.{Accepts, is_accepted, loaded_image, refusal_of}
-use Rattle.sh_types.specs.Coded.{IsCoded}
-use Rattle.sh_types.specs.Copy.{literals_below}
-use Rattle.sh_types.specs.Fine.{SiteFits, IsFine}
-use Rattle.sh_types.specs.Frame.{IsState, Follows}
+use Rattle.rv_table.specs.declared.instructions.Instr.{Instr}
+use Rattle.elf_rules.specs.declared.refusals.LoadFault.{LoadFault}
+use Rattle.rv_table.specs.Decoding.{decoded}
+use Rattle.elf_rules.specs.Accepted.{Accepts, is_accepted, loaded_image, refusal_of}
+use Rattle.elf_rules.specs.Coded.{IsCoded}
+use Rattle.sh_machines.specs.Copy.{literals_below}
+use Rattle.sh_machines.specs.Fine.{SiteFits, IsFine}
+use Rattle.sh_machines.specs.Frame.{IsState, Follows}
 use Rattle.sh_types.specs.Image.{sizes_of, starts_of, no_rows, row_in, row_at, site_at, word_at, first_stack, stack_start, stack_end}
-use Rattle.sh_types.specs.Kind.{Past, word_kind, kind_at}
+use Rattle.sh_machines.specs.Kind.{Past, word_kind, kind_at}
 use Rattle.sh_types.specs.Place.{pair, IsPair}
-use Rattle.sh_types.specs.Thin.{is_plain_word, are_entry_words, are_plain_words, is_thin_function, word_site, sites_from, states_from, word_behind, entered, entry_home, is_thin, classified, thin_image}
-use Rattle.sh_types.specs.Unmoved.{next_of}
+use Rattle.elf_rules.specs.Thin.{is_plain_word, are_entry_words, are_plain_words, is_thin_function, word_site, sites_from, states_from, word_behind, entered, entry_home, is_thin, classified, thin_image}
+use Rattle.sh_machines.specs.Unmoved.{next_of}
 use Rattle.thin_law.proofs.Words.{addi_signed, IsEntryWord, entry_word, IsOtherWord, other_word}
 use Rattle.thin_law.proofs.States.{IsOpen, open_state, entered_open, state_first, state_next, state_within, state_open, state_entered, return_instr, return_decoded}
 use Rattle.thin_law.proofs.Cases.{Fits, plain_fits, return_fits, entry_fits}

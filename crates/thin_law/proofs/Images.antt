@@ -7,9 +7,9 @@ use Rattle.std.proofs.lemmas.List.{get_or-map, get_or_past, length-map}
 use Rattle.sh_types.specs.declared.code.Function.{Function}
 use Rattle.sh_types.specs.declared.code.FrameTable.{FrameTable}
 use Rattle.sh_types.specs.declared.code.Image.{Image}
-use Rattle.sh_types.specs.Coded.{IsCoded}
+use Rattle.elf_rules.specs.Coded.{IsCoded}
 use Rattle.sh_types.specs.Image.{sizes_of, starts_of, number_of, no_rows, first_stack}
-use Rattle.sh_types.specs.Thin.{sites_from, frames_of, states_from, entered, is_thin_function, are_thin_functions, entry_home, is_thin, classified}
+use Rattle.elf_rules.specs.Thin.{sites_from, frames_of, states_from, entered, is_thin_function, are_thin_functions, entry_home, is_thin, classified}
 use Rattle.thin_law.proofs.Cases.{OthersCalled}
 
 -- ---- what is to be known of the image

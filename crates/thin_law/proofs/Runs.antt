@@ -11,16 +11,16 @@ use Rattle.sh_types.specs.declared.code.Image.{Image}
 use Rattle.sh_types.specs.declared.code.Pair.{Pair}
 use Rattle.sh_types.specs.declared.code.Site.{Site}
 use Rattle.sh_types.specs.declared.code.Site.TheVariants.{Plain, Literal, IndirectCall, IndirectTail, ReturnLike, Environment}
-use Rattle.sh_types.specs.declared.instructions.Instr.{Instr}
-use Rattle.sh_types.specs.Accepted.{sum_of}
-use Rattle.sh_types.specs.Coded.{IsCoded}
-use Rattle.sh_types.specs.Copy.{IsCopyable, goes_to, is_through, is_literal, literal_at, literals_in, literals_below}
-use Rattle.sh_types.specs.Decoding.{decoded}
+use Rattle.rv_table.specs.declared.instructions.Instr.{Instr}
+use Rattle.elf_rules.specs.Accepted.{sum_of}
+use Rattle.elf_rules.specs.Coded.{IsCoded}
+use Rattle.sh_machines.specs.Copy.{IsCopyable, goes_to, is_through, is_literal, literal_at, literals_in, literals_below}
+use Rattle.rv_table.specs.Decoding.{decoded}
 use Rattle.sh_types.specs.Image.{sizes_of, starts_of, site_at}
 use Rattle.sh_types.specs.Place.{pair}
-use Rattle.sh_types.specs.Runnable.{IsRunnable}
+use Rattle.sh_machines.specs.Runnable.{IsRunnable}
 use Rattle.sh_types.specs.Sized.{total, IsSized}
-use Rattle.sh_types.specs.Thin.{callee_of, call_site, instr_site, word_site, sites_from, is_ecall, is_jalr, is_jal, is_thin, classified}
+use Rattle.elf_rules.specs.Thin.{callee_of, call_site, instr_site, word_site, sites_from, is_ecall, is_jalr, is_jal, is_thin, classified}
 use Rattle.thin_law.proofs.Images.{is_number, thin_parts}
 
 -- ---- the sizes

@@ -7,14 +7,14 @@ use Rattle.std.proofs.lemmas.Int.{ints}
 use Rattle.sh_types.specs.declared.code.FrameState.{FrameState}
 use Rattle.sh_types.specs.declared.code.RaPlace.{RaPlace}
 use Rattle.sh_types.specs.declared.code.RaPlace.TheVariants.{Reg, Slot, Dropped}
-use Rattle.sh_types.specs.declared.instructions.Instr.{Instr}
-use Rattle.sh_types.specs.declared.instructions.Op.{Op}
-use Rattle.sh_types.specs.declared.instructions.Op.TheVariants.{Lui, Addi, Add, Jalr}
-use Rattle.sh_types.specs.Decoding.{decoded, op_in, made}
-use Rattle.sh_types.specs.Frame.{IsLoose, IsState}
-use Rattle.sh_types.specs.Instruction.{row_of, IsSigned}
-use Rattle.sh_types.specs.Need.{plus_imm}
-use Rattle.sh_types.specs.Thin.{computes, is_jal, is_jalr, is_plain, is_plain_word, moves_sp, are_plain_words, entered, small_depth, state_behind, word_behind, states_from}
+use Rattle.rv_table.specs.declared.instructions.Instr.{Instr}
+use Rattle.rv_table.specs.declared.instructions.Op.{Op}
+use Rattle.rv_table.specs.declared.instructions.Op.TheVariants.{Lui, Addi, Add, Jalr}
+use Rattle.rv_table.specs.Decoding.{decoded, op_in, made}
+use Rattle.sh_machines.specs.Frame.{IsLoose, IsState}
+use Rattle.rv_table.specs.Instruction.{row_of, IsSigned}
+use Rattle.rv_table.specs.Operands.{plus_imm}
+use Rattle.elf_rules.specs.Thin.{computes, is_jal, is_jalr, is_plain, is_plain_word, moves_sp, are_plain_words, entered, small_depth, state_behind, word_behind, states_from}
 
 -- ---- along the words
 

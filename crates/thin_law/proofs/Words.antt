@@ -4,13 +4,13 @@ use Rattle.std.specs.Option.{option_map}
 use Rattle.std.proofs.lemmas.Bool.{and_parts, eqb-true, cases_lt, lt-ltb, le-ltb}
 use Rattle.sh_types.specs.declared.code.Site.{Site}
 use Rattle.sh_types.specs.declared.code.Site.TheVariants.{Plain}
-use Rattle.sh_types.specs.declared.instructions.Instr.{Instr}
-use Rattle.sh_types.specs.declared.instructions.Op.{Op}
-use Rattle.sh_types.specs.declared.instructions.Op.TheVariants.{Addi}
-use Rattle.sh_types.specs.Decoding.{decoded, op_in, read, signed_bits}
-use Rattle.sh_types.specs.Instruction.{Form, row_of, IsSigned}
-use Rattle.sh_types.specs.Instruction.Form.{Upper, Jump, Branch, Immediate, Storing, Register, Shift6, Shift5, Atomic, Reserving, Fencing, Whole}
-use Rattle.sh_types.specs.Thin.{is_addi, is_entry_word, are_entry_words, is_plain_word, are_plain_words, word_site, sites_from}
+use Rattle.rv_table.specs.declared.instructions.Instr.{Instr}
+use Rattle.rv_table.specs.declared.instructions.Op.{Op}
+use Rattle.rv_table.specs.declared.instructions.Op.TheVariants.{Addi}
+use Rattle.rv_table.specs.Decoding.{decoded, op_in, read, signed_bits}
+use Rattle.rv_table.specs.Instruction.{Form, row_of, IsSigned}
+use Rattle.rv_table.specs.Instruction.Form.{Upper, Jump, Branch, Immediate, Storing, Register, Shift6, Shift5, Atomic, Reserving, Fencing, Whole}
+use Rattle.elf_rules.specs.Thin.{is_addi, is_entry_word, are_entry_words, is_plain_word, are_plain_words, word_site, sites_from}
 
 -- ---- immediates
 

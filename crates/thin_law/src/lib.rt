@@ -3,10 +3,10 @@
 
 ghost use Rattle.std.specs.Prelude.{◌≡◌, ℕ, List, Some, true};
 ghost use Rattle.sh_types.specs.declared.code.Image.{Image};
-ghost use Rattle.sh_types.specs.Coded.{IsCoded};
-ghost use Rattle.sh_types.specs.Fine.{IsFine};
-ghost use Rattle.sh_types.specs.Runnable.{IsRunnable};
-ghost use Rattle.sh_types.specs.Thin.{classified, is_thin, thin_image};
+ghost use Rattle.elf_rules.specs.Coded.{IsCoded};
+ghost use Rattle.sh_machines.specs.Fine.{IsFine};
+ghost use Rattle.sh_machines.specs.Runnable.{IsRunnable};
+ghost use Rattle.elf_rules.specs.Thin.{classified, is_thin, thin_image};
 
 use load_law::accepted_images_are_coded;
 

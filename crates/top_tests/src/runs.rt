@@ -1,11 +1,12 @@
 //! Machines that run a few instructions.
 ghost use Rattle.std.specs.Prelude.{◌≡◌, Some, IfOk, IfSome};
-ghost use Rattle.sh_types.specs.Runnable.{IsRunnable};
-ghost use Rattle.sh_types.specs.Thin.{thin_image};
+ghost use Rattle.sh_machines.specs.Runnable.{IsRunnable};
+ghost use Rattle.elf_rules.specs.Thin.{thin_image};
 
+use elf_rules::LoadFault;
 use guest_image::load_image;
 use period_report::{Form, report};
-use sh_types::{Bytes, CopyFetch, Image, LoadFault, NoMemory};
+use sh_types::{Bytes, CopyFetch, Image, NoMemory};
 use shuf_machine::{Machine, MachineNo, Origin};
 use std::alloc::Global;
 use std::thread::Threads;
@@ -13,7 +14,7 @@ use thin_image::classify;
 use thin_law::thin_images_are_fine;
 
 /// The image of the file with these bytes; None where the file is refused or is not thin.
-#[tactic(auto, unfolding(sh_types::specs::Thin::thin_image))]
+#[tactic(auto, unfolding(elf_rules::specs::Thin::thin_image))]
 fn read_thin<R: Threads + Sync>(
     rt: &R,
     alloc: Global,

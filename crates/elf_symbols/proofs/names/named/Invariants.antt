@@ -1,6 +1,6 @@
 use Rattle.std.proofs.Common.{◌≡◌, ◌++◌, drop}
 use Rattle.std.specs.Prelude.{map}
-use Rattle.sh_types.specs.Elf.{symbol}
+use Rattle.elf_rules.specs.Elf.{symbol}
 use Rattle.elf_symbols.proofs.names.named.Given as goal
 
 abbrev pub invariant-loop-raw : goal.invariant-loop-raw

@@ -1,7 +1,7 @@
 use Rattle.std.proofs.Common.{◌∙◌, sym, ap}
 use Rattle.std.specs.Prelude.{nat_le}
 use Rattle.std.specs.List.{list_any}
-use Rattle.sh_types.specs.declared.elf.RawSymbol.{RawSymbol}
+use Rattle.elf_rules.specs.declared.elf.RawSymbol.{RawSymbol}
 use Rattle.elf_symbols.proofs.Ending.{open_symbols}
 use Rattle.elf_symbols.proofs.rules.any_open_symbol.Goals as goal
 

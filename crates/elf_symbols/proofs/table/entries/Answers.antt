@@ -1,5 +1,5 @@
 use Rattle.std.proofs.Common.{◌/◌}
-use Rattle.sh_types.specs.Elf.{raw_symbol}
+use Rattle.elf_rules.specs.Elf.{raw_symbol}
 use Rattle.elf_symbols.proofs.Reading.{read_more, fits_more}
 use Rattle.elf_symbols.proofs.table.entries.Goals as goal
 

@@ -1,6 +1,6 @@
 use Rattle.std.proofs.Common.{◌≡◌, ◌+◌, ◌*◌, ◌-◌, ◌/◌, ◌≤◌, ◌++◌, length}
 use Rattle.std.specs.Prelude.{map}
-use Rattle.sh_types.specs.Elf.{raw_symbol, places}
+use Rattle.elf_rules.specs.Elf.{raw_symbol, places}
 use Rattle.elf_symbols.proofs.table.entries.Given as goal
 
 abbrev pub invariant-loop : goal.invariant-loop

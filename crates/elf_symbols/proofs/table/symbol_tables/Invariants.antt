@@ -1,6 +1,6 @@
 use Rattle.std.proofs.Common.{◌≡◌, ◌++◌, drop}
 use Rattle.std.specs.Prelude.{filter}
-use Rattle.sh_types.specs.Elf.{is_symtab}
+use Rattle.elf_rules.specs.Elf.{is_symtab}
 use Rattle.elf_symbols.proofs.table.symbol_tables.Given as goal
 
 abbrev pub invariant-loop-head : goal.invariant-loop-head

@@ -1,6 +1,6 @@
 use Rattle.std.proofs.Common.{◌≡◌, ◌++◌, drop}
 use Rattle.std.specs.Prelude.{map}
-use Rattle.sh_types.specs.Splitting as splitting
+use Rattle.elf_rules.specs.Splitting as splitting
 use Rattle.fn_split.proofs.functions.named.Given as goal
 
 abbrev pub invariant-loop-start : goal.invariant-loop-start

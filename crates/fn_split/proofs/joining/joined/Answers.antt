@@ -1,10 +1,10 @@
 use Rattle.std.proofs.Common.{rules, ◌∙◌, ap}
-use Rattle.sh_types.specs.declared.code.Start.{Start}
+use Rattle.elf_rules.specs.declared.starts.Start.{Start}
 use Rattle.std.proofs.lemmas.List.Sorted.{IsNonDecreasingBy-from_sort_by_key, answers_always, All-permutation}
 use Rattle.fn_split.specs.Low.{EndsLow}
 use Rattle.fn_split.specs.Merge.{merged_all}
 use Rattle.fn_split.proofs.OnePass.{joined-sorted}
-use Rattle.sh_types.specs.Splitting.{joined}
+use Rattle.elf_rules.specs.Splitting.{joined}
 use Rattle.fn_split.proofs.joining.joined.Goals as goal
 
 pub returns-clause-joined : goal.returns-clause-joined

@@ -1,5 +1,5 @@
 use Rattle.std.proofs.Common.{◌≡◌, drop}
-use Rattle.sh_types.specs.Splitting as splitting
+use Rattle.elf_rules.specs.Splitting as splitting
 use Rattle.fn_split.proofs.refusal.inside.Given as goal
 
 abbrev pub invariant-loop-function : goal.invariant-loop-function

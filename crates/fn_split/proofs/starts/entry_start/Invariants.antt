@@ -1,7 +1,7 @@
 use Rattle.std.proofs.Common.{◌≡◌, drop}
 use Rattle.std.specs.Prelude.{find, IsTrue}
 use Rattle.std.specs.List.{list_any}
-use Rattle.sh_types.specs.ElfRules as rules
+use Rattle.elf_rules.specs.ElfRules as rules
 use Rattle.fn_split.proofs.starts.entry_start.Given as goal
 
 abbrev pub invariant-loop-section : goal.invariant-loop-section

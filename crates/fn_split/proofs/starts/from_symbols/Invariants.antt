@@ -1,7 +1,7 @@
 use Rattle.std.proofs.Common.{◌≡◌, ◌++◌, drop}
 use Rattle.std.proofs.Common.{All}
 use Rattle.fn_split.specs.Low.{EndsLow}
-use Rattle.sh_types.specs.Splitting as splitting
+use Rattle.elf_rules.specs.Splitting as splitting
 use Rattle.fn_split.proofs.starts.from_symbols.Given as goal
 
 abbrev pub invariant-loop-symbol : goal.invariant-loop-symbol

@@ -1,5 +1,5 @@
 use Rattle.std.proofs.Common.{◌∙◌}
-use Rattle.sh_types.specs.Accepted.{file_regions}
+use Rattle.elf_rules.specs.Accepted.{file_regions}
 use Rattle.guest_image.proofs.Ordered.{codes_low, filled_is, filled_placed}
 use Rattle.guest_image.proofs.image.file_regions.Goals as goal
 

@@ -1,5 +1,5 @@
 use Rattle.std.proofs.Common.{◌≡◌, ◌+◌, ◌*◌, ◌^◌, ◌≤◌, drop}
-use Rattle.sh_types.specs.Accepted.{code_by}
+use Rattle.elf_rules.specs.Accepted.{code_by}
 use Rattle.guest_image.proofs.limits.code_by.Given as goal
 
 abbrev pub invariant-loop-function : goal.invariant-loop-function

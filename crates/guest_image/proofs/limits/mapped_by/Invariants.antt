@@ -1,5 +1,5 @@
 use Rattle.std.proofs.Common.{◌≡◌, ◌+◌, drop}
-use Rattle.sh_types.specs.Accepted.{mapped_by}
+use Rattle.elf_rules.specs.Accepted.{mapped_by}
 use Rattle.guest_image.proofs.limits.mapped_by.Given as goal
 
 abbrev pub invariant-loop-segment : goal.invariant-loop-segment

@@ -1,7 +1,7 @@
 use Rattle.std.proofs.Common.{rules, ◌∙◌, ap}
-use Rattle.sh_types.specs.declared.elf.Head.{Head}
+use Rattle.elf_rules.specs.declared.elf.Head.{Head}
 use Rattle.std.proofs.lemmas.List.Sorted.{IsNonDecreasingBy-from_sort_by_key, answers_always}
-use Rattle.sh_types.specs.Accepted.{rising_by}
+use Rattle.elf_rules.specs.Accepted.{rising_by}
 use Rattle.guest_image.proofs.Rising.{sorted_is}
 use Rattle.guest_image.proofs.order.codes_in_order.Goals as goal
 

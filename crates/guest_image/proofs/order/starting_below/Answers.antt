@@ -2,7 +2,7 @@ use Rattle.std.proofs.Common.{arith, rules}
 use Rattle.std.specs.Prelude.{nat_lt}
 use Rattle.std.proofs.lemmas.Bool.{ltb-true, ltb-false}
 use Rattle.std.proofs.lemmas.List.Sorted.{IsPartitionedBy-ltb, IsPartitionPoint-from_clause}
-use Rattle.sh_types.specs.declared.elf.Head.{Head}
+use Rattle.elf_rules.specs.declared.elf.Head.{Head}
 use Rattle.guest_image.proofs.order.starting_below.Goals as goal
 
 pub returns : goal.returns

@@ -2,7 +2,7 @@ use Rattle.std.proofs.Common.{arith, rules}
 use Rattle.std.specs.Prelude.{nat_le}
 use Rattle.std.proofs.lemmas.Bool.{leb-true, leb-false}
 use Rattle.std.proofs.lemmas.List.Sorted.{IsPartitionedBy-leb, IsPartitionPoint-from_clause}
-use Rattle.sh_types.specs.declared.elf.Head.{Head}
+use Rattle.elf_rules.specs.declared.elf.Head.{Head}
 use Rattle.guest_image.proofs.order.starting_by.Goals as goal
 
 pub returns : goal.returns

@@ -1,5 +1,5 @@
 use Rattle.std.proofs.Common.{◌≡◌, ◌++◌, ◌≤◌, drop}
-use Rattle.sh_types.specs.Accepted.{pieces}
+use Rattle.elf_rules.specs.Accepted.{pieces}
 use Rattle.guest_image.proofs.regions.add_pieces.Given as goal
 
 abbrev pub invariant-loop-code : goal.invariant-loop-code

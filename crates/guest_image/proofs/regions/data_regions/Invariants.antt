@@ -1,5 +1,5 @@
 use Rattle.std.proofs.Common.{◌≡◌, ◌++◌, drop}
-use Rattle.sh_types.specs.Accepted.{data_regions}
+use Rattle.elf_rules.specs.Accepted.{data_regions}
 use Rattle.guest_image.proofs.regions.data_regions.Given as goal
 
 abbrev pub invariant-loop-segment : goal.invariant-loop-segment

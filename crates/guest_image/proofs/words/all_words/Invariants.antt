@@ -1,6 +1,6 @@
 use Rattle.std.proofs.Common.{◌≡◌, ◌++◌, drop}
 use Rattle.std.specs.Prelude.{map}
-use Rattle.sh_types.specs.Accepted.{function_words}
+use Rattle.elf_rules.specs.Accepted.{function_words}
 use Rattle.guest_image.proofs.words.all_words.Given as goal
 
 abbrev pub invariant-loop-function : goal.invariant-loop-function

@@ -1,4 +1,4 @@
-use Rattle.sh_types.specs.Elf.{number_at}
+use Rattle.elf_rules.specs.Elf.{number_at}
 use Rattle.guest_image.proofs.Places.{read_more, fits_more}
 use Rattle.guest_image.proofs.words.words_from.Goals as goal
 

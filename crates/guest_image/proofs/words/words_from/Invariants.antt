@@ -1,6 +1,6 @@
 use Rattle.std.proofs.Common.{◌≡◌, ◌+◌, ◌*◌, ◌-◌, ◌≤◌, ◌++◌, length}
 use Rattle.std.specs.Prelude.{map}
-use Rattle.sh_types.specs.Elf.{number_at, places}
+use Rattle.elf_rules.specs.Elf.{number_at, places}
 use Rattle.guest_image.proofs.words.words_from.Given as goal
 
 abbrev pub invariant-loop : goal.invariant-loop

@@ -1,5 +1,5 @@
 use Rattle.std.proofs.Common.{◌≡◌, ap, subst, ◌∙◌, arith}
-use Rattle.sh_types.specs.Serial.{turn, turn_limit}
+use Rattle.sh_machines.specs.Serial.{turn, turn_limit}
 use Rattle.hart_runner.specs.Plans.{schedule_of}
 use Rattle.hart_runner.specs.Standing.{image_in, pace_of, with_events}
 use Rattle.hart_runner.proofs.First.{leading_first, leading_on, led_served}

@@ -1,4 +1,4 @@
-use Rattle.sh_types.specs.Serial.{turn}
+use Rattle.sh_machines.specs.Serial.{turn}
 use Rattle.hart_runner.specs.Standing.{image_in, pace_of}
 use Rattle.hart_runner.proofs.First.{Taking}
 use Rattle.hart_runner.proofs.built.take_first_turn.Given as goal

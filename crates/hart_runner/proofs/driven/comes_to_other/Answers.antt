@@ -1,7 +1,7 @@
 use Rattle.std.proofs.Common.{◌≡◌, Some, true, None, sym, ap, ◌∙◌}
 use Rattle.std.specs.Prelude.{slice_get}
 use Rattle.std.specs.Option.{option_copied}
-use Rattle.sh_types.specs.Unmoved.{can_go}
+use Rattle.sh_machines.specs.Unmoved.{can_go}
 use Rattle.shuf_machine.specs.Past.{guest_of, state_of}
 use Rattle.shuf_machine.specs.Run.{setting_of}
 use Rattle.hart_runner.specs.Built.{comes_to_other}

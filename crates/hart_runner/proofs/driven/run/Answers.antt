@@ -1,7 +1,7 @@
 use Rattle.std.proofs.Common.{◌≡◌, true, sym, ap, ◌∙◌, arith}
-use Rattle.sh_types.specs.Event.{can_run}
-use Rattle.sh_types.specs.Serial.{run_length}
-use Rattle.sh_types.specs.Unmoved.{can_go}
+use Rattle.sh_machines.specs.Event.{can_run}
+use Rattle.sh_machines.specs.Serial.{run_length}
+use Rattle.sh_machines.specs.Unmoved.{can_go}
 use Rattle.shuf_machine.specs.Past.{guest_of, state_of}
 use Rattle.shuf_machine.specs.Refusal.{run_no}
 use Rattle.shuf_machine.specs.Run.{setting_of}

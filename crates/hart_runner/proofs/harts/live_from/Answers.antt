@@ -1,5 +1,5 @@
 use Rattle.std.proofs.Common.{sym, subst, arith}
-use Rattle.sh_types.specs.StandsFor.{StandsFor}
+use Rattle.sh_machines.specs.StandsFor.{StandsFor}
 use Rattle.shuf_machine.specs.Past.{state_of}
 use Rattle.shuf_machine.specs.Run.{setting_of}
 use Rattle.hart_runner.specs.Standing.{image_in, pace_of}

@@ -1,7 +1,7 @@
 use Rattle.std.proofs.Common.{sym, ap, ◌∙◌}
 use Rattle.std.specs.Prelude.{slice_get}
-use Rattle.sh_types.specs.Event.{is_live}
-use Rattle.sh_types.specs.Unmoved.{Unmoved, is_alive}
+use Rattle.sh_machines.specs.Event.{is_live}
+use Rattle.sh_machines.specs.Unmoved.{Unmoved, is_alive}
 use Rattle.shuf_machine.specs.Past.{state_of, guest_of}
 use Rattle.shuf_machine.specs.Run.{setting_of}
 use Rattle.hart_runner.specs.Standing.{image_in}

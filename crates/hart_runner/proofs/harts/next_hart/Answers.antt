@@ -1,9 +1,9 @@
 use Rattle.std.proofs.Common.{◌≡◌, true, sym, subst, arith}
 use Rattle.std.specs.Prelude.{slice_get}
-use Rattle.sh_types.specs.Event.{written}
-use Rattle.sh_types.specs.Pace.{live_from}
-use Rattle.sh_types.specs.Serial.{first_or, next_hart}
-use Rattle.sh_types.specs.Unmoved.{Unmoved, goes_still, is_alive, can_go}
+use Rattle.sh_machines.specs.Event.{written}
+use Rattle.sh_machines.specs.Pace.{live_from}
+use Rattle.sh_machines.specs.Serial.{first_or, next_hart}
+use Rattle.sh_machines.specs.Unmoved.{Unmoved, goes_still, is_alive, can_go}
 use Rattle.hart_runner.specs.Standing.{image_in, pace_of}
 use Rattle.hart_runner.proofs.Numbers.{next_is, next_again}
 use Rattle.hart_runner.proofs.Tests.{and_second}

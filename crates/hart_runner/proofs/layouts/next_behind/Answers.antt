@@ -1,7 +1,7 @@
 use Rattle.std.proofs.Common.{◌≡◌, sym, ap, ◌∙◌, arith}
 use Rattle.std.specs.Prelude.{slice_get}
 use Rattle.std.specs.Option.{option_copied}
-use Rattle.sh_types.specs.Event.{is_off}
+use Rattle.sh_machines.specs.Event.{is_off}
 use Rattle.shuf_machine.specs.Past.{state_of}
 use Rattle.hart_runner.specs.Standing.{pace_of}
 use Rattle.hart_runner.proofs.Linking.{linked, below_more, first_found, first_none}

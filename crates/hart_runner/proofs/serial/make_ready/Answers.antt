@@ -1,6 +1,6 @@
 use Rattle.std.proofs.Common.{[], ap, ◌∙◌, arith}
-use Rattle.sh_types.specs.Serial.{cleared_away}
-use Rattle.sh_types.specs.Unmoved.{Unmoved, goes_still}
+use Rattle.sh_machines.specs.Serial.{cleared_away}
+use Rattle.sh_machines.specs.Unmoved.{Unmoved, goes_still}
 use Rattle.hart_runner.specs.Standing.{pace_of}
 use Rattle.hart_runner.proofs.Boundaries.{cleared, publication_of, readying, half_ready}
 use Rattle.hart_runner.proofs.Stills.{on_err, ok_then, err_then, part_within, still_on, still_last}

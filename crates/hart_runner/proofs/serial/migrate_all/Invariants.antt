@@ -1,5 +1,5 @@
 use Rattle.std.proofs.Common.{length}
-use Rattle.sh_types.specs.Serial.{migrations}
+use Rattle.sh_machines.specs.Serial.{migrations}
 use Rattle.hart_runner.specs.Standing.{pace_of}
 use Rattle.hart_runner.proofs.Boundaries.{Moving}
 use Rattle.hart_runner.proofs.serial.migrate_all.Given as goal

@@ -1,8 +1,8 @@
 use Rattle.std.proofs.Common.{◌-◌, [], ◌∷◌, ap, ◌∙◌}
 use Rattle.sh_types.specs.declared.runs.Event.TheVariants.{Erase}
-use Rattle.sh_types.specs.Pace.{Pace}
-use Rattle.sh_types.specs.Serial.{migrations}
-use Rattle.sh_types.specs.Unmoved.{goes_still}
+use Rattle.sh_machines.specs.Pace.{Pace}
+use Rattle.sh_machines.specs.Serial.{migrations}
+use Rattle.sh_machines.specs.Unmoved.{goes_still}
 use Rattle.hart_runner.specs.Standing.{pace_of}
 use Rattle.hart_runner.proofs.Boundaries.{publication_of, published, emptied, erase_left}
 use Rattle.hart_runner.proofs.Stills.{on_err, ok_then, err_then, part_same, part_within, still_first, still_on, still_last}

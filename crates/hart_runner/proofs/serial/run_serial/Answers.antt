@@ -1,5 +1,5 @@
 use Rattle.std.proofs.Common.{◌≡◌, ◌++◌, false, ap, ◌∙◌, arith}
-use Rattle.sh_types.specs.Serial.{is_done, turn_limit}
+use Rattle.sh_machines.specs.Serial.{is_done, turn_limit}
 use Rattle.shuf_machine.specs.Past.{Past}
 use Rattle.hart_runner.specs.Plans.{schedule_of}
 use Rattle.hart_runner.specs.Standing.{pace_of}

@@ -1,5 +1,5 @@
 use Rattle.std.proofs.Common.{ap, arith}
-use Rattle.sh_types.specs.Pace.{Pace}
+use Rattle.sh_machines.specs.Pace.{Pace}
 use Rattle.sh_types.specs.declared.runs.Event.TheVariants.{Run}
 use Rattle.pace_law.proofs.Length.{length_few}
 use Rattle.hart_runner.specs.Standing.{image_in, pace_of}

@@ -1,5 +1,5 @@
 use Rattle.std.proofs.Common.{◌+◌, ◌<◌, ◌^◌}
-use Rattle.sh_types.specs.Serial.{turn}
+use Rattle.sh_machines.specs.Serial.{turn}
 use Rattle.hart_runner.specs.Standing.{image_in, pace_of}
 use Rattle.hart_runner.proofs.Turns.{Turning}
 use Rattle.hart_runner.proofs.serial.take_turn.Given as goal

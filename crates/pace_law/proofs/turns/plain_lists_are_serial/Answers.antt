@@ -1,4 +1,4 @@
-use Rattle.sh_types.specs.Unmoved.{unmoved_start}
+use Rattle.sh_machines.specs.Unmoved.{unmoved_start}
 use Rattle.pace_law.proofs.Plain.{plain_is, short_within}
 use Rattle.pace_law.proofs.turns.plain_lists_are_serial.Goals as goal
 

@@ -1,5 +1,5 @@
 use Rattle.std.proofs.Common.{◌≡◌, drop}
-use Rattle.sh_types.specs.Shuffled.{any_live}
+use Rattle.sh_machines.specs.Shuffled.{any_live}
 use Rattle.shuf_machine.proofs.finishing.any_live.Given as goal
 
 abbrev pub invariant-loop-hart : goal.invariant-loop-hart

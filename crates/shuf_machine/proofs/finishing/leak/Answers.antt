@@ -1,7 +1,7 @@
 use Rattle.std.proofs.Common.{refl, ap, ◌∙◌}
 use Rattle.sh_types.specs.declared.runs.End.TheVariants as end
-use Rattle.sh_types.specs.Need.{Leaks}
-use Rattle.sh_types.specs.Shuffled.{stopped}
+use Rattle.sh_machines.specs.Need.{Leaks}
+use Rattle.sh_machines.specs.Shuffled.{stopped}
 use Rattle.shuf_machine.specs.Meant.{meant}
 use Rattle.shuf_machine.specs.Run.{setting_of}
 use Rattle.shuf_machine.proofs.Ending.{stopped_by}

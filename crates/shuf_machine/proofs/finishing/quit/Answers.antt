@@ -1,6 +1,6 @@
 use Rattle.std.proofs.Common.{refl, ap, ◌∙◌}
-use Rattle.sh_types.specs.Need.{Quits}
-use Rattle.sh_types.specs.Shuffled.{hart_ends}
+use Rattle.sh_machines.specs.Need.{Quits}
+use Rattle.sh_machines.specs.Shuffled.{hart_ends}
 use Rattle.shuf_machine.specs.Meant.{meant}
 use Rattle.shuf_machine.specs.Run.{setting_of}
 use Rattle.shuf_machine.proofs.Ending.{ended_cannot, stopped_by}

@@ -1,6 +1,6 @@
 use Rattle.std.proofs.Common.{◌≡◌, ◌++◌, take, drop}
 use Rattle.std.specs.Prelude.{map}
-use Rattle.sh_types.specs.Shuffled.{hart_loses}
+use Rattle.sh_machines.specs.Shuffled.{hart_loses}
 use Rattle.shuf_machine.proofs.reservations.lose.Given as goal
 
 abbrev pub invariant-loop-hart : goal.invariant-loop-hart

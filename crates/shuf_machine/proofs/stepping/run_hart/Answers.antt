@@ -1,6 +1,6 @@
 use Rattle.std.proofs.Common.{◌≡◌, ℕ, suc, ◌+◌, ◌-◌, ◌≤◌, ◌∙◌, true, sym, ap, subst, arith, refl}
-use Rattle.sh_types.specs.Event.{instructions, can_run}
-use Rattle.sh_types.specs.Shuffled.{Shuffled, shuffled_step}
+use Rattle.sh_machines.specs.Event.{instructions, can_run}
+use Rattle.sh_machines.specs.Shuffled.{Shuffled, shuffled_step}
 use Rattle.shuf_machine.specs.Meant.{meant}
 use Rattle.shuf_machine.specs.Next.{IsReached, next_outcome}
 use Rattle.shuf_machine.specs.Run.{setting_of}

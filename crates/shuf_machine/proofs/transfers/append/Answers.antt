@@ -1,6 +1,6 @@
 use Rattle.std.proofs.Common.{◌≡◌, ◌∙◌, ◌+◌, ◌++◌, ◌∷◌, [], List, ℕ, sym, ap, subst, arith}
 use Rattle.std.specs.Prelude.{unwrap_or}
-use Rattle.sh_types.specs.Memory.{bytes_from}
+use Rattle.sh_machines.specs.Memory.{bytes_from}
 use Rattle.guest_mem.specs.Held.{words_of, plain_of, regions_of}
 use Rattle.shuf_machine.proofs.Bytes.{IsRest, byte_is, readable_at, rest_next, rest_last, rest_none}
 use Rattle.shuf_machine.proofs.transfers.append.Goals as goal

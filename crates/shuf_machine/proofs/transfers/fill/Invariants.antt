@@ -1,5 +1,5 @@
 use Rattle.std.proofs.Common.{◌≡◌, ◌+◌, take}
-use Rattle.sh_types.specs.Shuffled.{fills}
+use Rattle.sh_machines.specs.Shuffled.{fills}
 use Rattle.guest_mem.specs.Held.{words_of, regions_of}
 use Rattle.shuf_machine.proofs.transfers.fill.Given as goal
 

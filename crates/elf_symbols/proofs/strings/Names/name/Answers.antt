@@ -1,6 +1,6 @@
 use Rattle.std.proofs.Common.{◌≡◌, ℕ, ◌-◌, List, take, drop, IfOk, subst, arith}
 use Rattle.std.specs.List.Sorted.{IsNonDecreasingBy}
-use Rattle.sh_types.specs.Elf.{name_at}
+use Rattle.elf_rules.specs.Elf.{name_at}
 use Rattle.elf_symbols.specs.Zeros.{zeros_from}
 use Rattle.elf_symbols.proofs.Naming.{rising, first_above, first_within, name_is}
 use Rattle.elf_symbols.proofs.strings.Names.name.Goals as goal

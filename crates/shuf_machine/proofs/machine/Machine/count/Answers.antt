@@ -1,6 +1,6 @@
 use Rattle.std.proofs.Common.{◌≡◌, length, ap, ◌∙◌, subst}
-use Rattle.sh_types.specs.Event.{written}
-use Rattle.sh_types.specs.Shuffled.{Shuffled}
+use Rattle.sh_machines.specs.Event.{written}
+use Rattle.sh_machines.specs.Shuffled.{Shuffled}
 use Rattle.shuf_machine.specs.Past.{Past}
 use Rattle.shuf_machine.specs.Run.{setting_of}
 use Rattle.shuf_machine.proofs.machine.Machine.count.Goals as goal

@@ -1,5 +1,5 @@
 use Rattle.std.proofs.Common.{◌≡◌, ap, ◌∙◌, subst}
-use Rattle.sh_types.specs.Shuffled.{Shuffled}
+use Rattle.sh_machines.specs.Shuffled.{Shuffled}
 use Rattle.shuf_machine.specs.Past.{Past, guest_of}
 use Rattle.shuf_machine.specs.Run.{setting_of}
 use Rattle.shuf_machine.proofs.machine.Machine.end.Goals as goal

@@ -1,0 +1,174 @@
+-- Which files are accepted, in which order the others are refused, and the image of an accepted file. A file is refused
+-- by a rule of the ELF file (ElfRules), by a limit, or by a rule of splitting (Splitting). The limits and the order are
+-- this project's own; segments and sections are those of the System V gABI ("Program Header", "Sections").
+use Rattle.std.specs.Prelude.{◌≡◌, ℕ, ◌+◌, ◌-◌, ◌/◌, ◌&&◌, nat_lt, nat_le, max, min, Bool, is_none, List, [], ◌∷◌, ◌++◌, length, map, filter, find, take, drop, replicate, unwrap_or, Option, Some, None, Result, Ok, Err, if◌then◌else◌}
+use Rattle.sh_types.specs.declared.code.Function.{Function}
+use Rattle.sh_types.specs.declared.code.Image.{Image}
+use Rattle.sh_types.specs.declared.code.Region.{Region}
+use Rattle.elf_rules.specs.declared.elf.Head.{Head}
+use Rattle.elf_rules.specs.declared.elf.Segment.{Segment}
+use Rattle.elf_rules.specs.declared.refusals.ElfRule.{ElfRule}
+use Rattle.elf_rules.specs.declared.refusals.LimitKind.{LimitKind}
+use Rattle.elf_rules.specs.declared.refusals.LimitKind.TheVariants as kind
+use Rattle.elf_rules.specs.declared.refusals.LoadFault.{LoadFault}
+use Rattle.elf_rules.specs.declared.refusals.LoadFault.TheVariants as load
+use Rattle.elf_rules.specs.declared.refusals.SplitFault.{SplitFault}
+use Rattle.elf_rules.specs.declared.refusals.SplitFault.TheVariants as split
+use Rattle.elf_rules.specs.Elf.{number_at, places, entry_of, segments_of, heads_of, is_code, sections_of, no_head, symbols_of}
+use Rattle.elf_rules.specs.ElfRules.{has_memory, first_failing, table_rules, symbol_rules}
+use Rattle.sh_types.specs.Image.{starts_of, number_of, first_stack}
+use Rattle.sh_types.specs.Limits.{most_code, most_functions, most_mapped}
+use Rattle.elf_rules.specs.Splitting.{split_refusal, functions_of}
+
+-- ---- what is limited
+
+abbrev pub sum_of : List ℕ → ℕ
+sum_of [] = 0
+sum_of (n ∷ ns) = n + sum_of ns
+
+-- the bytes of the PT_LOAD segments in memory
+abbrev pub mapped_by : List Segment → ℕ
+mapped_by segments = sum_of (map (λ (g : Segment). g.size) segments)
+
+-- the bytes of functions
+abbrev pub code_by : List Function → ℕ
+code_by functions = sum_of (map (λ (f : Function). f.size) functions)
+
+-- the functions that the file's symbols give
+unfoldable pub file_functions : List ℕ → List Function
+file_functions b = functions_of (symbols_of b) (sections_of b) (entry_of b)
+
+-- ---- refusals
+
+-- a value above its limit
+abbrev pub above : LimitKind → ℕ → ℕ → Option LoadFault
+above kind most value = if nat_lt most value then Some (load.Limit kind value) else None
+
+abbrev pub by_rule : Option ElfRule → Option LoadFault
+by_rule None = None
+by_rule (Some rule) = Some (load.Elf rule)
+
+-- splitting does not answer want of memory where it answers a rule
+abbrev pub by_split : Option SplitFault → Option LoadFault
+by_split None = None
+by_split (Some split.NoMemory) = None
+by_split (Some (split.Rule home rule)) = Some (load.Split home rule)
+
+abbrev pub or_later : Option LoadFault → Option LoadFault → Option LoadFault
+or_later None later = later
+or_later (Some refusal) later = Some refusal
+
+-- the first refusal: the rules of the file, the mapped bytes, the rules of splitting, the number of
+-- functions and the bytes of code
+unfoldable pub refusal_of : List ℕ → Option LoadFault
+refusal_of b =
+    or_later (by_rule (first_failing table_rules b))
+    (or_later (by_rule (first_failing symbol_rules b))
+    (or_later (above kind.Mapped most_mapped (mapped_by (segments_of b)))
+    (or_later (by_split (split_refusal (symbols_of b) (sections_of b) (entry_of b)))
+    (or_later (above kind.Functions most_functions (length (file_functions b)))
+    (above kind.Code most_code (code_by (file_functions b)))))))
+
+-- the file is accepted
+abbrev pub is_accepted : List ℕ → Bool
+is_accepted b = is_none (refusal_of b)
+
+abbrev pub Accepts : List ℕ → Type 0
+Accepts b = refusal_of b ≡ None
+
+-- ---- by rising addresses
+
+abbrev pub put_by : {A : Type 0} → (A → ℕ) → A → List A → List A
+put_by key x [] = x ∷ []
+put_by key x (y ∷ ys) = if nat_le (key x) (key y) then x ∷ y ∷ ys else y ∷ put_by key x ys
+
+-- the entries of a list by rising keys
+abbrev pub rising_by : {A : Type 0} → (A → ℕ) → List A → List A
+rising_by key [] = []
+rising_by key (x ∷ xs) = put_by key x (rising_by key xs)
+
+-- the segments with memory, and the sections with code, by rising addresses
+unfoldable pub filled_in_order : List ℕ → List Segment
+filled_in_order b = rising_by (λ (g : Segment). g.start) (filter has_memory (segments_of b))
+
+unfoldable pub codes_in_order : List ℕ → List Head
+codes_in_order b = rising_by (λ (h : Head). h.start) (filter is_code (heads_of b))
+
+-- ---- words
+
+-- an address lies in a section
+abbrev pub is_inside : ℕ → Head → Bool
+is_inside address h = nat_le h.start address && nat_lt address (h.start + h.size)
+
+abbrev pub section_with : List Head → ℕ → Head
+section_with codes address = unwrap_or (find (is_inside address) codes) no_head
+
+-- where the bytes of an address stand in the file
+abbrev pub file_place : List Head → ℕ → ℕ
+file_place codes address = (section_with codes address).file_at + (address - (section_with codes address).start)
+
+-- the words of a function, as they stand in the file
+unfoldable pub function_words : List ℕ → List Head → Function → List ℕ
+function_words b codes f = map (number_at 4 b) (places 4 (file_place codes f.home) (f.size / 4))
+
+-- ---- the readable bytes
+
+-- the bytes of a segment from one address up to another: those of the file, and behind p_filesz zeros
+unfoldable pub segment_bytes : List ℕ → Segment → ℕ → ℕ → List ℕ
+segment_bytes b g from to =
+    take (min to (g.start + g.file_size) - from) (drop (g.file_at + (from - g.start)) b)
+    ++ replicate (to - max from (g.start + g.file_size)) 0
+
+-- the part of a segment from one address up to another, if there is a byte
+abbrev pub piece : List ℕ → Segment → ℕ → ℕ → List Region
+piece b g from to =
+    if nat_lt from to
+    then record { start = from; end = to; writable = g.writable; bytes = segment_bytes b g from to } ∷ []
+    else []
+
+-- the parts of a segment, from an address on, that lie in none of these sections, which rise
+abbrev pub pieces : List ℕ → Segment → ℕ → List Head → List Region
+pieces b g from [] = piece b g from (g.start + g.size)
+pieces b g from (h ∷ hs) = piece b g from h.start ++ pieces b g (h.start + h.size) hs
+
+-- the sections that start in a segment
+abbrev pub codes_within : Segment → List Head → List Head
+codes_within g codes = filter (λ (h : Head). nat_le g.start h.start && nat_lt h.start (g.start + g.size)) codes
+
+-- the parts of the segments that hold no code
+abbrev pub data_regions : List ℕ → List Head → List Segment → List Region
+data_regions b codes [] = []
+data_regions b codes (g ∷ gs) = pieces b g g.start (codes_within g codes) ++ data_regions b codes gs
+
+-- and the first stack behind them
+unfoldable pub file_regions : List ℕ → List Region
+file_regions b = data_regions b (codes_in_order b) (filled_in_order b) ++ first_stack ∷ []
+
+-- ---- the image
+
+-- the number of the function at the entry
+abbrev pub entry_number : List ℕ → ℕ
+entry_number b = unwrap_or (number_of (starts_of (file_functions b)) (entry_of b)) 0
+
+-- the image of an accepted file: functions, words and readable bytes; what binds code to data is not read
+unfoldable pub loaded_image : List ℕ → Image
+loaded_image b =
+    record {
+      functions = file_functions b;
+      entry = entry_number b;
+      words = map (function_words b (codes_in_order b)) (file_functions b);
+      sites = [];
+      frames = [];
+      literals = [];
+      rows = [];
+      labels = [];
+      regions = file_regions b;
+    }
+
+-- the file is accepted and this is its image, or this is the first refusal; want of memory says nothing
+abbrev pub Loads : Result Image LoadFault → Option LoadFault → Image → Type 0
+Loads (Ok image) refusal value = (refusal ≡ None) × (image ≡ value)
+Loads (Err load.NoMemory) refusal value = Unit {0}
+Loads (Err (load.Elf rule)) refusal value = refusal ≡ Some (load.Elf rule)
+Loads (Err (load.Limit kind most)) refusal value = refusal ≡ Some (load.Limit kind most)
+Loads (Err (load.Split home rule)) refusal value = refusal ≡ Some (load.Split home rule)

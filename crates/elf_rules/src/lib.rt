@@ -1,0 +1,12 @@
+//! Parts of ELF-64 files, and why a file is refused; which files are accepted, by which rules, stands in specs/.
+#![tactic(auto)]
+
+mod asking;
+mod elf;
+mod refusals;
+mod starts;
+
+pub use asking::{is_code, runs_at, with_memory};
+pub use elf::{Elf, Head, Program, RawSymbol, Segment, Span};
+pub use refusals::{ElfFault, ElfRule, LimitKind, LoadFault, SplitFault, SplitRule};
+pub use starts::Start;

@@ -1,0 +1,5 @@
+pub mod Arithmetic
+pub mod Decoding
+pub mod Instruction
+pub mod MachineForm
+pub mod Operands

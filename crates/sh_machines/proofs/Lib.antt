@@ -1,0 +1,4 @@
+pub mod Copied
+pub mod Seeing
+pub mod Sharing
+pub mod Small
