@@ -1,10 +1,11 @@
 //! What is due for a run of a file.
-ghost use Rattle.std.specs.Prelude.{◌≡◌, Some, true, IfOk};
+ghost use Rattle.std.specs.Prelude.{◌≡◌, Some, true, false, IfOk};
 ghost use Rattle.elf_rules.specs.Accepted.{Accepts, loaded_image};
 ghost use Rattle.elf_rules.specs.Coded.{IsCoded};
 ghost use Rattle.sh_machines.specs.Runnable.{IsRunnable};
 ghost use Rattle.elf_rules.specs.Thin.{thin_image};
 ghost use Rattle.shuf_machine.specs.Past.{guest_of};
+ghost use Rattle.hart_runner.specs.Built.{exits_or};
 ghost use Rattle.shuf_cli.specs.Rows.{run_due};
 ghost use Rattle.shuf_cli.specs.Run.{run_status, ran_due, built_due, accepted_due, HasExited};
 
@@ -36,7 +37,9 @@ fn status_of(end: Option<End>) -> u8
 
 /// A run that was made: all that the guest wrote is due, and the report.
 fn ran(alloc: Global, machine: Machine) -> Result<Due, NoMemory>
-    ensures { IfOk result (λ due. due ≡ ran_due machine) }
+    requires { exits_or (guest_of machine).end false ≡ true }
+    ensures due { IfOk result (λ due. due ≡ ran_due machine) }
+    ensures exited { IfOk result (λ due. HasExited due.machine) }
 {
     let written = Bytes::from_slice(alloc, machine.output())?;
     let told = report(alloc, &machine, PERIOD, Form::Short)?;

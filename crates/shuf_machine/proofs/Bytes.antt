@@ -1,5 +1,5 @@
 -- Ranges of bytes that are read from memory, and put there.
-use Rattle.std.proofs.Common.{◌≡◌, ℕ, zero, suc, ◌+◌, ◌-◌, ◌*◌, ◌/◌, ◌%◌, ◌^◌, ◌<◌, ◌≤◌, Bool, true, false, Option, Some, None, List, [], ◌∷◌, ◌++◌, length, take, drop, refl, sym, ap, ◌∙◌, subst, arith, append_assoc, append-nil}
+use Rattle.std.proofs.Common.{◌≡◌, ℕ, zero, suc, ◌+◌, ◌-◌, ◌*◌, ◌/◌, ◌%◌, ◌^◌, ◌<◌, ◌≤◌, Bool, true, false, Option, Some, None, List, [], ◌∷◌, ◌++◌, length, take, refl, sym, ap, ◌∙◌, subst, arith, append_assoc, append-nil}
 use Rattle.std.specs.Prelude.{slice_index, ◌==◌, ◌&&◌, ◌||◌, is_some, unwrap_or, if◌then◌else◌}
 use Rattle.std.specs.List.{list_any}
 use Rattle.std.specs.Option.{option_map}
@@ -206,24 +206,8 @@ fill_free_at a i at bytes m0 m ea lt plain em =
 pub fill_write_at : (rs rs' : List Region) (a i at n : ℕ) → at ≡ a + i → i < n → rs' ≡ rs → writable rs a n ≡ true → writable rs' at 1 ≡ true
 fill_write_at rs rs' a i at n ea lt er w = ap (λ r. writable r at 1) er ∙ ap (λ x. writable rs x 1) ea ∙ writable_at rs a n i lt w
 
-take_all : (xs : List ℕ) → take (length xs) xs ≡ xs
-take_all [] = refl
-take_all (x ∷ xs) = ap (λ ys. x ∷ ys) (take_all xs)
-
-take_past : (i : ℕ) (xs : List ℕ) → length xs ≤ i → take i xs ≡ xs
-take_past zero [] le = refl
-take_past (suc i) [] le = refl
-take_past zero (x ∷ xs) le = absurd (omega (arith, le))
-take_past (suc i) (x ∷ xs) le = ap (λ ys. x ∷ ys) (take_past i xs (omega (arith, le)))
-
-pub fill_last : (a i : ℕ) (bytes : List ℕ) (m0 m : ℕ → Owned) → length bytes ≤ i → m ≡ fills a (take i bytes) m0 → m ≡ fills a bytes m0
-fill_last a i bytes m0 m le em = em ∙ ap (λ bs. fills a bs m0) (take_past i bytes le)
-
 pub fill_first : (a : ℕ) (bytes : List ℕ) (m : ℕ → Owned) → m ≡ fills a (take 0 bytes) m
 fill_first a bytes m = sym (fills_none a m)
-
-pub fill_empty : (a : ℕ) (bytes : List ℕ) (m : ℕ → Owned) → bytes ≡ [] → m ≡ fills a bytes m
-fill_empty a bytes m e = sym (fills_none a m) ∙ ap (λ bs. fills a bs m) (sym e)
 
 -- ---- what can be written can be read
 

@@ -1,5 +1,5 @@
 -- What an environment call leaves.
-use Rattle.std.proofs.Common.{◌≡◌, ℕ, zero, suc, ◌+◌, ◌-◌, ◌%◌, ◌<◌, ◌≤◌, Bool, true, false, Option, Some, None, List, [], ◌∷◌, ◌++◌, length, take, drop, refl, sym, ap, ◌∙◌, subst, arith, append-nil}
+use Rattle.std.proofs.Common.{◌≡◌, ℕ, zero, suc, ◌%◌, ◌<◌, ◌≤◌, Bool, true, false, Option, Some, None, List, [], ◌∷◌, ◌++◌, length, take, drop, refl, sym, ap, ◌∙◌, subst, arith, append-nil}
 use Rattle.std.specs.Prelude.{map, slice_get, slice_set, slice_index, ◌==◌, ◌&&◌, ◌||◌, nat_lt, is_some, IsSome, if◌then◌else◌}
 use Rattle.std.proofs.lemmas.Bool.Decides.{nat_tests}
 use Rattle.sh_types.specs.declared.code.Image.{Image}
@@ -11,9 +11,8 @@ use Rattle.sh_machines.specs.Environment.{Answers, Reads, Starts, ExitsHart, Exi
 use Rattle.sh_machines.specs.Fine.{IsFine}
 use Rattle.sh_machines.specs.Memory.{each_from, readable, writable, byte_of, both_bytes, bytes_from}
 use Rattle.sh_machines.specs.Need.{Calls, stored_at}
-use Rattle.sh_machines.specs.Shuffled.{Setting, Shuffled, left, set_hart, harts_lose, fills, new_hart, after_call, hart_asks, shuffled_step}
+use Rattle.sh_machines.specs.Shuffled.{Setting, Shuffled, left, set_hart, harts_lose, fills, after_call, hart_asks, shuffled_step}
 use Rattle.sh_machines.specs.Tokens.{token_of, row_named}
-use Rattle.guest_calls.specs.declared.CallDid.{CallDid}
 use Rattle.guest_calls.specs.Answer.{answer_of}
 use Rattle.guest_calls.specs.Seen.{Seen, Put, put, after, request, called as called_of}
 use Rattle.guest_calls.specs.Seen as seen
@@ -24,7 +23,7 @@ use Rattle.shuf_machine.specs.declared.asking.Begun.{Begun}
 use Rattle.shuf_machine.specs.declared.asking.Taken.{Taken}
 use Rattle.shuf_machine.specs.declared.state.Code.{Code}
 use Rattle.shuf_machine.specs.declared.state.State.{State}
-use Rattle.shuf_machine.specs.Calling.{stored_of, begun_by, started_of, seen_of, answer_by, answer_for, more_of, call_at, lives_of, CanAct, acted, with_output}
+use Rattle.shuf_machine.specs.Calling.{stored_of, started_of, seen_of, answer_by, answer_for, more_of, call_at, lives_of, CanAct, acted, with_output}
 use Rattle.shuf_machine.specs.Meant.{meant, IsCode, IsMapped}
 use Rattle.shuf_machine.specs.Next.{next_outcome}
 use Rattle.shuf_machine.specs.Run.{setting_of}

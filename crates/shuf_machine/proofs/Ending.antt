@@ -1,11 +1,10 @@
 -- Instructions that end a hart or the run.
-use Rattle.std.proofs.Common.{◌≡◌, ℕ, Bool, true, false, Some, List, refl, sym, ap, ◌∙◌, subst}
+use Rattle.std.proofs.Common.{◌≡◌, ℕ, Bool, true, false, Some, refl, sym, ap, ◌∙◌, subst}
 use Rattle.std.specs.Prelude.{slice_get, slice_set, ◌&&◌}
-use Rattle.sh_types.specs.declared.runs.End.{End}
 use Rattle.sh_types.specs.declared.runs.Hart.{Hart}
 use Rattle.sh_machines.specs.Event.{is_live, can_run}
 use Rattle.sh_machines.specs.Need.{Outcome}
-use Rattle.sh_machines.specs.Shuffled.{Setting, Owned, Shuffled, after, ended_hart, hart_ends, stopped}
+use Rattle.sh_machines.specs.Shuffled.{Setting, Owned, Shuffled, after, ended_hart, hart_ends}
 use Rattle.sh_law.specs.Length.{is_calls}
 use Rattle.shuf_machine.specs.Next.{next_outcome, IsStopped}
 use Rattle.shuf_machine.proofs.Losing.{get_set}

@@ -1,5 +1,5 @@
 -- What the loop over instructions keeps, and what it comes to.
-use Rattle.std.proofs.Common.{◌≡◌, ℕ, zero, suc, ◌+◌, ◌-◌, ◌<◌, ◌≤◌, Bool, true, false, Option, Some, None, List, [], ◌∷◌, ◌++◌, refl, sym, ap, ◌∙◌, subst, arith, append-nil, append_assoc}
+use Rattle.std.proofs.Common.{◌≡◌, ℕ, zero, suc, ◌-◌, ◌<◌, ◌≤◌, Bool, true, false, Option, List, [], ◌++◌, refl, sym, ap, ◌∙◌, subst, arith, append-nil, append_assoc}
 use Rattle.std.specs.Prelude.{slice_get, ◌==◌, ◌&&◌, nat_lt, if◌then◌else◌}
 use Rattle.std.proofs.lemmas.Bool.Decides.{nat_tests}
 use Rattle.sh_types.specs.declared.fetching.Fetched.{Fetched}
@@ -188,11 +188,3 @@ pub asked_whole : (o : Setting) (n limit k j : ℕ) (s s1 : Shuffled) (a b c : O
 asked_whole o n limit k j s s1 a b c ej some e1 t u =
     let l : suc (limit - 1) ≡ limit = omega (arith, some) in
     subst (λ x. Tells a (asked_in o n limit x s) c) (sym ej) (subst (λ x. Tells a (asked_in o n x (suc k) s) c) l (asked_after o n (limit - 1) k s a b c t (subst (λ x. Tells b (asked_in o n (limit - 1) k x) c) e1 u)))
-
--- a hart that cannot go has no further instruction
-pub quiet_none : (o : Setting) (n most : ℕ) (s : Shuffled) → can_run s n ≡ false → IsQuiet o n most 0 s
-quiet_none o n most s f =
-    record { few = omega arith; all = refl; inner = λ m lt. absurd (omega (arith, lt)); short = λ _ can. absurd (cc) }
-
-pub asked_none : (o : Setting) (n most : ℕ) (s : Shuffled) (a : Option (List Fetched)) → can_run s n ≡ false → Tells a (asked_in o n most 0 s) a
-asked_none o n most s a f = subst (λ l. Tells a l a) (sym (asked_no_more o n most 0 s (and_false (nat_lt 0 most) _ f))) (tells_none a)

@@ -1,8 +1,7 @@
 -- What the code does for an instruction is what the machine does.
-use Rattle.std.proofs.Common.{◌≡◌, ℕ, ℤ, zero, suc, ◌+◌, ◌/◌, Bool, true, false, Option, Some, None, List, [], ◌∷◌, refl, sym, ap, ◌∙◌, subst, arith}
-use Rattle.std.specs.Prelude.{slice_get, slice_set, slice_index, slice_index_or, ◌==◌, ◌&&◌, ◌||◌, not, is_some, if◌then◌else◌}
+use Rattle.std.proofs.Common.{◌≡◌, ℕ, ℤ, zero, suc, ◌/◌, true, false, Option, Some, None, List, [], ◌∷◌, refl, sym, ap, ◌∙◌, subst}
+use Rattle.std.specs.Prelude.{slice_get, slice_set, slice_index, slice_index_or, ◌==◌, ◌&&◌, if◌then◌else◌}
 use Rattle.std.proofs.Math.Path.{fun_ext}
-use Rattle.std.proofs.lemmas.Bool.Decides.{nat_tests}
 use Rattle.sh_types.specs.declared.code.Image.{Image}
 use Rattle.sh_types.specs.declared.code.Pair.{Pair}
 use Rattle.sh_types.specs.declared.code.Region.{Region}
@@ -20,7 +19,7 @@ use Rattle.sh_machines.specs.Memory.{readable, writable}
 use Rattle.sh_machines.specs.Need.{Outcome, Goes, Puts, Calls, Quits, Traps, Leaks, Need, Makes, touching, answered, words_after, set_at}
 use Rattle.rv_table.specs.Operands.{plus_imm, both_ra, width_of, is_lr}
 use Rattle.sh_types.specs.Place.{whose_of, pair_or_first}
-use Rattle.sh_machines.specs.Shuffled.{Setting, Owned, Shuffled, left, after, harts_lose, hart_loses, moved_of, on_hart, shuffled_step, hart_does, hart_needs, is_guard, kind_there, pair_of, load_owned, store_owned, reserve_owned, atomic_owned, save_owned, take_owned}
+use Rattle.sh_machines.specs.Shuffled.{Setting, Owned, Shuffled, left, after, harts_lose, moved_of, on_hart, shuffled_step, hart_does, hart_needs, is_guard, kind_there, pair_of, load_owned, store_owned, reserve_owned, atomic_owned, save_owned, take_owned}
 use Rattle.sh_machines.specs.StandsFor.{layout_number}
 use Rattle.sh_law.specs.Length.{is_calls, hart_calls, calls_in}
 use Rattle.hart_step.specs.declared.answers.Did.{Did}
@@ -31,7 +30,7 @@ use Rattle.guest_mem.specs.Held.{Held, regions_of}
 use Rattle.shuf_machine.specs.declared.state.Code.{Code}
 use Rattle.shuf_machine.specs.declared.state.Prepared.{Prepared}
 use Rattle.shuf_machine.specs.Meant.{IsCode, IsMade, IsMapped}
-use Rattle.shuf_machine.specs.Next.{outcome_at, next_outcome, layout_on, Continues, OutContinues, IsHere, IsNext, IsBegun, IsStill, Begins, any_reserved}
+use Rattle.shuf_machine.specs.Next.{outcome_at, next_outcome, Continues, OutContinues, IsHere, IsNext, IsBegun, IsStill, Begins}
 use Rattle.shuf_machine.specs.Ran.{asked_by}
 use Rattle.shuf_machine.specs.Run.{setting_of}
 use Rattle.shuf_machine.proofs.Copies.{guards_are_zero}

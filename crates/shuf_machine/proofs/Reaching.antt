@@ -1,5 +1,5 @@
 -- What holds of a state that a legal list of events leads to, and of the next.
-use Rattle.std.proofs.Common.{◌≡◌, ℕ, zero, suc, ◌+◌, ◌-◌, ◌/◌, ◌<◌, ◌≤◌, Bool, true, false, Option, Some, None, List, [], ◌∷◌, ◌++◌, length, refl, sym, ap, ◌∙◌, subst, inl, inr, arith}
+use Rattle.std.proofs.Common.{◌≡◌, ℕ, zero, suc, ◌/◌, ◌<◌, ◌≤◌, true, Some, List, [], ◌∷◌, ◌++◌, length, refl, sym, ap, ◌∙◌, subst, arith}
 use Rattle.std.specs.Prelude.{slice_get, slice_index}
 use Rattle.sh_types.specs.declared.code.Image.{Image}
 use Rattle.sh_types.specs.declared.layouts.CodeCopy.{CodeCopy}
@@ -19,13 +19,11 @@ use Rattle.sh_machines.specs.StandsFor.{HartStands, HartsStand, layout_number, l
 use Rattle.sh_machines.specs.Unmoved.{Thread, Content, Unmoved, thread_needs, unmoved_run}
 use Rattle.sh_machines.proofs.Copied.{place_in_copy, cell_length}
 use Rattle.sh_law.specs.Agrees.{Both, Agrees}
-use Rattle.sh_law.specs.Reach.{IsPlaced}
 use Rattle.sh_law.specs.Sound.{IsOn, Stays}
 use Rattle.shuf_machine.specs.declared.state.Code.{Code}
 use Rattle.shuf_machine.specs.declared.state.Prepared.{Prepared}
-use Rattle.shuf_machine.specs.declared.state.State.{State}
 use Rattle.shuf_machine.specs.Laws.{Laws}
-use Rattle.shuf_machine.specs.Meant.{meant, IsCode, IsMade, IsOlder}
+use Rattle.shuf_machine.specs.Meant.{IsCode, IsMade}
 use Rattle.shuf_machine.specs.Next.{Continues, OutContinues, layout_on, IsHere, IsNext, IsReached}
 use Rattle.shuf_machine.specs.Run.{setting_of}
 use Rattle.shuf_machine.proofs.Copies.{copy_is, words_are}

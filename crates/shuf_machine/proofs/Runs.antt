@@ -1,11 +1,11 @@
 -- A Run event, in the journal.
-use Rattle.std.proofs.Common.{◌≡◌, ℕ, ◌+◌, ◌<◌, ◌^◌, Bool, true, false, Option, Some, None, List, [], ◌∷◌, ◌++◌, refl, sym, ap, ◌∙◌, subst, arith}
+use Rattle.std.proofs.Common.{◌≡◌, ℕ, Bool, true, false, Option, Some, None, List, [], ◌∷◌, ◌++◌, refl, sym, ◌∙◌, subst}
 use Rattle.std.specs.Prelude.{slice_get, ◌&&◌, if◌then◌else◌}
 use Rattle.sh_types.specs.declared.runs.End.{End}
 use Rattle.sh_types.specs.declared.runs.Event.{Event}
 use Rattle.sh_types.specs.declared.runs.Event.TheVariants.{Run}
 use Rattle.sh_types.specs.declared.runs.Hart.{Hart}
-use Rattle.sh_machines.specs.Event.{instructions, can_run, can_all, is_live, Allowed, state_after, IsLegalIn, written}
+use Rattle.sh_machines.specs.Event.{can_run, can_all, is_live, Allowed, state_after, IsLegalIn, written}
 use Rattle.sh_machines.specs.Fine.{IsSetting}
 use Rattle.sh_machines.specs.Serial.{run_length}
 use Rattle.sh_machines.specs.Shuffled.{Setting, Shuffled}
@@ -14,13 +14,13 @@ use Rattle.sh_law.specs.Length.{IsWhole}
 use Rattle.shuf_machine.specs.declared.answers.No.TheVariants.{NoHart}
 use Rattle.shuf_machine.specs.declared.state.Code.{Code}
 use Rattle.shuf_machine.specs.declared.state.State.{State}
-use Rattle.shuf_machine.specs.Meant.{meant, IsCode, IsMapped, IsMachine}
+use Rattle.shuf_machine.specs.Meant.{meant, IsMapped, IsMachine}
 use Rattle.shuf_machine.specs.Next.{IsReached}
 use Rattle.shuf_machine.specs.Ran.{IsRun}
 use Rattle.shuf_machine.specs.Refusal.{unless_ended, live_no, run_no}
 use Rattle.shuf_machine.specs.Run.{image_of, setting_of, shuffled_run}
 use Rattle.shuf_machine.proofs.Journal.{machine_more}
-use Rattle.shuf_machine.proofs.Steps.{both_true, run_allowed}
+use Rattle.shuf_machine.proofs.Steps.{run_allowed}
 
 -- ---- where there is no reason against it the hart can run
 

@@ -1,10 +1,9 @@
 -- One more instruction of a hart.
-use Rattle.std.proofs.Common.{◌≡◌, ℕ, zero, suc, ◌+◌, ◌<◌, true, false, List, [], ◌∷◌, ◌++◌, Option, Some, None, refl, sym, ap, ◌∙◌, arith, append_assoc, append-nil}
+use Rattle.std.proofs.Common.{◌≡◌, ℕ, zero, suc, ◌+◌, ◌<◌, true, false, List, [], ◌++◌, Option, Some, None, refl, sym, ap, ◌∙◌, arith, append_assoc, append-nil}
 use Rattle.std.specs.Prelude.{slice_get, nat_lt, ◌&&◌, Bool}
 use Rattle.std.proofs.lemmas.Bool.Decides.{nat_tests}
 use Rattle.sh_types.specs.declared.fetching.Fetched.{Fetched}
 use Rattle.sh_types.specs.declared.runs.End.{End}
-use Rattle.sh_types.specs.declared.runs.Event.{Event}
 use Rattle.sh_types.specs.declared.runs.Event.TheVariants.{Run}
 use Rattle.sh_types.specs.declared.runs.Hart.{Hart}
 use Rattle.sh_machines.specs.Environment.{CallDid, Answers, Reads, Starts, ExitsHart, ExitsRun, LeaksWord, call_of}
@@ -58,10 +57,6 @@ after_count o s n h Leaks = refl
 pub step_count : (o : Setting) (s : Shuffled) (n : ℕ) → can_run s n ≡ true → (shuffled_step o n s).count ≡ s.count + 1
 unfolding shuffled_step
 step_count o s n c = let h = can_hart s n c in ap (λ x. (on_hart o s n x).count) h.1 ∙ after_count o s n h.0 (moved_of o h.0 s.words)
-
-pub run_count : (o : Setting) (n k : ℕ) (s : Shuffled) → can_all o n k s ≡ true → (instructions o n k s).count ≡ s.count + k
-run_count o n zero s c = omega arith
-run_count o n (suc k) s c = omega (arith, run_count o n k (shuffled_step o n s) (and_second _ _ c), step_count o s n (and_first _ _ c))
 
 -- ---- one more
 

@@ -1,5 +1,5 @@
 -- Environment calls, as the machine does them. This project's own.
-use Rattle.std.specs.Prelude.{◌≡◌, ℕ, ◌+◌, ◌<◌, ◌≤◌, Bool, true, Option, Some, None, IsSome, List, [], ◌∷◌, ◌++◌, length, map, take, drop, slice_get, slice_set}
+use Rattle.std.specs.Prelude.{◌≡◌, ℕ, ◌<◌, ◌≤◌, Bool, true, Option, Some, None, IsSome, List, [], ◌∷◌, ◌++◌, length, map, take, drop, slice_set}
 use Rattle.sh_types.specs.declared.code.Region.{Region}
 use Rattle.sh_types.specs.declared.runs.End.TheVariants as end
 use Rattle.sh_types.specs.declared.runs.Hart.{Hart}

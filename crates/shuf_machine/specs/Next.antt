@@ -11,7 +11,7 @@ use Rattle.sh_machines.specs.Need.{Outcome, Goes, Puts, Calls, Quits, Traps, Lea
 use Rattle.rv_table.specs.Operands.{plus_imm}
 use Rattle.sh_machines.specs.Shuffled.{Setting, Owned, Shuffled, left, harts_lose, moved_of, shuffled_step, kind_there}
 use Rattle.sh_machines.specs.StandsFor.{layout_number}
-use Rattle.sh_law.specs.Length.{is_calls, calls_in}
+use Rattle.sh_law.specs.Length.{calls_in}
 use Rattle.hart_step.specs.declared.answers.Did.{Did}
 use Rattle.hart_step.specs.declared.answers.Did.TheVariants.{Went, Call, HartEnd, Trapped, Leak}
 use Rattle.shuf_machine.specs.declared.state.Code.{Code}

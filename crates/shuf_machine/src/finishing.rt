@@ -87,6 +87,7 @@ fn low_byte(number: u64) -> u8
 }
 
 /// The hart returns to the root, which ends it.
+#[cold]
 pub fn quit(code: &Code, from: &Prepared, state: &mut State, at: u32)
     requires code { IsCode code.now }
     requires mapped { IsMapped code.now.image state.old.memory }
@@ -103,6 +104,7 @@ pub fn quit(code: &Code, from: &Prepared, state: &mut State, at: u32)
 }
 
 /// The run ends with a trap.
+#[cold]
 pub fn trap(code: &Code, from: &Prepared, state: &mut State, at: u32, kind: Trap, value: u64)
     requires code { IsCode code.now }
     requires mapped { IsMapped code.now.image state.old.memory }
@@ -128,6 +130,7 @@ pub fn trap(code: &Code, from: &Prepared, state: &mut State, at: u32, kind: Trap
 }
 
 /// The run ends because a return address was used as data.
+#[cold]
 pub fn leak(code: &Code, from: &Prepared, state: &mut State, at: u32)
     requires code { IsCode code.now }
     requires mapped { IsMapped code.now.image state.old.memory }

@@ -1,9 +1,7 @@
-use Rattle.std.proofs.Common.{◌≡◌, ℕ, List, ◌++◌, ◌∷◌, [], refl, sym, ap, ◌∙◌, length}
+use Rattle.std.proofs.Common.{ℕ, List, ◌++◌, ◌∷◌, [], refl, ap, ◌∙◌, length}
 use Rattle.std.specs.Prelude.{slice_index}
-use Rattle.guest_calls.specs.Answer.{answer_of}
-use Rattle.guest_calls.specs.Seen.{called}
 use Rattle.guest_mem.specs.Held.{plain_of, regions_of}
-use Rattle.shuf_machine.specs.Calling.{answer_by, answer_for, call_at, lives_of, more_of, seen_of, with_output}
+use Rattle.shuf_machine.specs.Calling.{answer_by, answer_for, call_at, lives_of, more_of, with_output}
 use Rattle.shuf_machine.specs.Meant.{meant}
 use Rattle.shuf_machine.specs.Run.{setting_of}
 use Rattle.shuf_machine.proofs.Calling.{told, joined, call_is}

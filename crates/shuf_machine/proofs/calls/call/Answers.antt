@@ -1,10 +1,8 @@
-use Rattle.std.proofs.Common.{◌≡◌, ℕ, ◌<◌, List, length, refl, sym, ap, ◌∙◌, subst, arith}
+use Rattle.std.proofs.Common.{List, length, ap, subst, arith}
 use Rattle.sh_types.specs.declared.runs.Hart.{Hart}
 use Rattle.sh_machines.specs.Event.{with_harts}
-use Rattle.sh_machines.specs.Shuffled.{Shuffled}
 use Rattle.sh_machines.specs.StandsFor.{layout_number}
 use Rattle.shuf_machine.specs.Meant.{meant, IsMade}
-use Rattle.shuf_machine.specs.Next.{IsHere}
 use Rattle.shuf_machine.specs.Run.{setting_of}
 use Rattle.shuf_machine.proofs.Calling.{called, can_do}
 use Rattle.shuf_machine.proofs.Next.{current_here}

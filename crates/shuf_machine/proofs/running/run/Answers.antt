@@ -1,10 +1,10 @@
-use Rattle.std.proofs.Common.{List, [], ◌∷◌, ◌++◌, sym, ◌∙◌, ap, arith}
+use Rattle.std.proofs.Common.{List, [], ◌∷◌, ◌++◌, sym, ◌∙◌, ap}
 use Rattle.sh_types.specs.declared.runs.Event.{Event}
 use Rattle.sh_types.specs.declared.runs.Event.TheVariants.{Run}
 use Rattle.sh_machines.specs.Shuffled.{Shuffled}
 use Rattle.shuf_machine.specs.Meant.{meant}
 use Rattle.shuf_machine.specs.Refusal.{run_no}
-use Rattle.shuf_machine.proofs.Runs.{can_run_on, reached_by, machine_same, machine_ran, run_is_allowed, run_between, length_is}
+use Rattle.shuf_machine.proofs.Runs.{can_run_on, reached_by, machine_ran, run_is_allowed, run_between, length_is}
 use Rattle.shuf_machine.proofs.running.run.Goals as goal
 
 pub returns-in-Some-clause-cause : goal.returns-in-Some-clause-cause

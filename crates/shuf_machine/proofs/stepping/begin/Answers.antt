@@ -1,7 +1,6 @@
-use Rattle.std.proofs.Common.{ℕ, List, sym, ap, ◌∙◌, subst, arith}
+use Rattle.std.proofs.Common.{subst, arith}
 use Rattle.guest_mem.specs.Held.{words_of}
 use Rattle.hart_step.specs.Task.{tables_with}
-use Rattle.sh_types.specs.declared.runs.Hart.{Hart}
 use Rattle.sh_types.specs.Fetch.{Tells}
 use Rattle.shuf_machine.specs.Meant.{meant}
 use Rattle.shuf_machine.proofs.Next.{begun, read_here, read_there, asked_is, tables_are, meets_there, guards_there}

@@ -1,10 +1,10 @@
-use Rattle.std.proofs.Common.{◌≡◌, ℕ, suc, ◌+◌, ◌-◌, ◌≤◌, ◌∙◌, true, sym, ap, subst, arith, refl}
+use Rattle.std.proofs.Common.{◌≡◌, ◌+◌, ◌∙◌, true, sym, ap, subst, arith}
 use Rattle.sh_machines.specs.Event.{instructions, can_run}
 use Rattle.sh_machines.specs.Shuffled.{Shuffled, shuffled_step}
 use Rattle.shuf_machine.specs.Meant.{meant}
 use Rattle.shuf_machine.specs.Next.{IsReached, next_outcome}
 use Rattle.shuf_machine.specs.Run.{setting_of}
-use Rattle.shuf_machine.proofs.Keeping.{run_quiet, first_is_call, asked_first, run_of, asked_whole, quiet_none, asked_none}
+use Rattle.shuf_machine.proofs.Keeping.{run_quiet, first_is_call, asked_first, run_of, asked_whole}
 use Rattle.shuf_machine.proofs.Reaching.{reached_more}
 use Rattle.shuf_machine.proofs.Steps.{step_count}
 use Rattle.shuf_machine.proofs.stepping.run_hart.Goals as goal

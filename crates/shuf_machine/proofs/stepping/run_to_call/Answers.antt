@@ -1,5 +1,5 @@
-use Rattle.std.proofs.Common.{◌≡◌, ℕ, suc, ◌+◌, ◌∙◌, sym, ap, subst, arith, add-one, refl}
-use Rattle.sh_machines.specs.Shuffled.{Shuffled, shuffled_step}
+use Rattle.std.proofs.Common.{◌≡◌, ◌+◌, ◌∙◌, sym, ap, subst, arith, add-one}
+use Rattle.sh_machines.specs.Shuffled.{Shuffled}
 use Rattle.shuf_machine.specs.Meant.{meant, IsMade}
 use Rattle.shuf_machine.specs.Next.{any_reserved}
 use Rattle.shuf_machine.specs.Run.{setting_of}

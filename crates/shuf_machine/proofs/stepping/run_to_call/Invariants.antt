@@ -1,4 +1,4 @@
-use Rattle.std.proofs.Common.{◌≡◌, ◌+◌, ◌-◌, ◌≤◌, true, false}
+use Rattle.std.proofs.Common.{◌≡◌, ◌+◌, ◌-◌, ◌≤◌, false}
 use Rattle.shuf_machine.specs.Meant.{meant, IsMapped}
 use Rattle.shuf_machine.specs.Next.{any_reserved}
 use Rattle.shuf_machine.specs.Run.{setting_of}

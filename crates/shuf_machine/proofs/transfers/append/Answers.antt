@@ -1,4 +1,4 @@
-use Rattle.std.proofs.Common.{◌≡◌, ◌∙◌, ◌+◌, ◌++◌, ◌∷◌, [], List, ℕ, sym, ap, subst, arith}
+use Rattle.std.proofs.Common.{◌∙◌, ◌+◌, ◌++◌, ◌∷◌, [], List, ℕ, sym, ap, subst, arith}
 use Rattle.std.specs.Prelude.{unwrap_or}
 use Rattle.sh_machines.specs.Memory.{bytes_from}
 use Rattle.guest_mem.specs.Held.{words_of, plain_of, regions_of}

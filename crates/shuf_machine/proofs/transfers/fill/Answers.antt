@@ -1,4 +1,4 @@
-use Rattle.std.proofs.Common.{◌≡◌, ◌<◌, ◌+◌, length, refl, sym, ap, ◌∙◌, arith, add-one}
+use Rattle.std.proofs.Common.{length, refl, ◌∙◌, arith, add-one}
 use Rattle.guest_mem.specs.Held.{words_of, regions_of}
 use Rattle.shuf_machine.proofs.Bytes.{fill_first, fill_next, fill_free_at, fill_write_at, write_read}
 use Rattle.shuf_machine.proofs.transfers.fill.Goals as goal
