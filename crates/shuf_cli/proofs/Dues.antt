@@ -59,11 +59,14 @@ module _ (P : Due → Type 0) (lines : (line : List ℕ) → P (line_due 12 line
 line_said : (status : ℕ) (line : List ℕ) → Contains (0 ∷ 1 ∷ 10 ∷ 11 ∷ 12 ∷ []) status → DueIsSaid (line_due status line)
 line_said status line among = record { statuses = among; stores = λ ne. refl; unmade = λ high. (refl, refl) }
 
+abbrev bit : Bool → ℕ
+bit b = if b then 1 else 0
+
 exit_small : (end : Option End) → exits_or end false ≡ true → Contains (0 ∷ 1 ∷ []) (run_status end)
 exit_small None e = absurd (cc)
 exit_small (Some (Exit code)) e = by (nat_lt 0 code)
   where
-    by : (b : Bool) → Contains (0 ∷ 1 ∷ []) (if b then 1 else 0)
+    by : (b : Bool) → Contains (0 ∷ 1 ∷ []) (bit b)
     by true = (1, omega arith, refl)
     by false = (0, omega arith, refl)
 exit_small (Some (Trapped kind hart pair value)) e = absurd (cc)
@@ -92,7 +95,7 @@ run_low : (end : Option End) → run_status end ≡ 10 → ⊥
 run_low None e = absurd (omega (arith, e))
 run_low (Some (Exit code)) e = by (nat_lt 0 code) e
   where
-    by : (b : Bool) → (if b then 1 else 0) ≡ 10 → ⊥
+    by : (b : Bool) → bit b ≡ 10 → ⊥
     by true e = absurd (omega (arith, e))
     by false e = absurd (omega (arith, e))
 run_low (Some (Trapped kind hart pair value)) e = absurd (omega (arith, e))
