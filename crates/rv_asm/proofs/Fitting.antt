@@ -4,8 +4,9 @@ use Rattle.std.specs.Prelude.{ℤ, pos, negsuc, nat_lt, [], ◌∷◌, if◌then
 use Rattle.std.proofs.lemmas.Bool.{ltb-true, ltb-false}
 use Rattle.rv_table.specs.declared.instructions.Op.{Op}
 use Rattle.rv_table.specs.declared.instructions.Op.TheVariants.{Lui, Auipc, Jal, Jalr, Addi, Addiw, Slli, Srli, Srai, Slliw, Srliw, Sraiw}
-use Rattle.rv_table.specs.Instruction.{Form, row_of, low_bits, IsSigned, IsUnsigned, FieldsFit, IsInstr}
-use Rattle.rv_table.specs.Instruction.Form.{Upper, Jump, Branch, Immediate, Storing, Register, Shift6, Shift5, Atomic, Reserving, Fencing, Whole}
+use Rattle.rv_table.specs.Instruction.{row_of, low_bits, IsSigned, IsUnsigned, FieldsFit, IsInstr}
+use Rattle.rv_table.specs.declared.rows.Form.{Form}
+use Rattle.rv_table.specs.declared.rows.Form.TheVariants.{Upper, Jump, Branch, Immediate, Storing, Register, Shift6, Shift5, Atomic, Reserving, Fencing, Whole}
 use Rattle.rv_table.specs.Decoding.{made, signed_bits}
 use Rattle.asm_text.specs.declared.statements.Statement.{Statement}
 use Rattle.asm_text.specs.declared.statements.Statement.TheVariants as statement

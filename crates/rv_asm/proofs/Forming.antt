@@ -5,8 +5,9 @@ use Rattle.std.specs.List.{All, list_any}
 use Rattle.std.specs.Str.{bytes_eq}
 use Rattle.std.proofs.lemmas.Bool.{ltb-true, eqb-true, or_cases}
 use Rattle.std.proofs.lemmas.List.Elements.{All-nil, All-cons, All-append, All-map, Contains-append_right}
-use Rattle.rv_table.specs.Instruction.{Form, row_of, form_number}
-use Rattle.rv_table.specs.Instruction.Form.{Upper, Branch, Immediate, Storing, Register, Shift6, Shift5, Atomic, Reserving, Fencing, Whole}
+use Rattle.rv_table.specs.Instruction.{row_of, form_number}
+use Rattle.rv_table.specs.declared.rows.Form.{Form}
+use Rattle.rv_table.specs.declared.rows.Form.TheVariants.{Upper, Branch, Immediate, Storing, Register, Shift6, Shift5, Atomic, Reserving, Fencing, Whole}
 use Rattle.rv_table.specs.declared.instructions.Op.{Op}
 use Rattle.rv_table.specs.declared.instructions.Op.TheVariants.{Addi, Jalr}
 use Rattle.asm_text.specs.declared.faults.AsmRule.TheVariants.{Text}

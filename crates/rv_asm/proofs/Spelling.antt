@@ -5,8 +5,10 @@ use Rattle.std.proofs.lemmas.Bool.{ltb-true}
 use Rattle.rv_table.specs.declared.instructions.Op.{Op}
 use Rattle.rv_table.specs.declared.instructions.Op.TheVariants.{Lui}
 use Rattle.rv_table.specs.declared.instructions.Instr.{Instr}
-use Rattle.rv_table.specs.Instruction.{Form, Row, row_of, low_bits, IsSigned, FieldsFit, IsInstr, fields, word_of}
-use Rattle.rv_table.specs.Instruction.Form.{Upper, Jump, Branch, Immediate, Storing, Register, Shift6, Shift5, Atomic, Reserving, Fencing, Whole}
+use Rattle.rv_table.specs.Instruction.{row_of, low_bits, IsSigned, FieldsFit, IsInstr, fields, word_of}
+use Rattle.rv_table.specs.declared.rows.Form.{Form}
+use Rattle.rv_table.specs.declared.rows.Form.TheVariants.{Upper, Jump, Branch, Immediate, Storing, Register, Shift6, Shift5, Atomic, Reserving, Fencing, Whole}
+use Rattle.rv_table.specs.declared.rows.Row.{Row}
 use Rattle.rv_table.specs.Decoding.{decoded}
 use Rattle.rv_table.proofs.Reading.{decoded_encodes}
 use Rattle.asm_text.specs.declared.statements.Item.{Item}

@@ -2,8 +2,9 @@
 -- width of a value.
 use Rattle.std.specs.Prelude.{◌≡◌, ℕ, ℤ, pos, ◌<◌, List, [], ◌∷◌, Contains}
 use Rattle.std.specs.List.{All}
-use Rattle.rv_table.specs.Instruction.{Form, row_of}
-use Rattle.rv_table.specs.Instruction.Form.{Upper, Jump, Branch, Immediate, Storing, Register, Shift6, Shift5, Atomic, Reserving, Fencing, Whole}
+use Rattle.rv_table.specs.Instruction.{row_of}
+use Rattle.rv_table.specs.declared.rows.Form.{Form}
+use Rattle.rv_table.specs.declared.rows.Form.TheVariants.{Upper, Jump, Branch, Immediate, Storing, Register, Shift6, Shift5, Atomic, Reserving, Fencing, Whole}
 use Rattle.asm_text.specs.declared.statements.Statement.{Statement}
 use Rattle.asm_text.specs.declared.statements.Statement.TheVariants as statement
 use Rattle.asm_text.specs.declared.statements.Item.{Item}

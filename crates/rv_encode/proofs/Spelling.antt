@@ -1,7 +1,9 @@
 -- What the row of a mnemonic says of its instructions.
 use Rattle.std.proofs.Common.{◌≡◌, ℕ, Option, Some, None}
 use Rattle.std.specs.Prelude.{IfSome}
-use Rattle.rv_table.specs.Instruction.{Form, Row, row_of, Encodes, IsInstr, FieldsFit, fields, word_of}
+use Rattle.rv_table.specs.Instruction.{row_of, Encodes, IsInstr, FieldsFit, fields, word_of}
+use Rattle.rv_table.specs.declared.rows.Form.{Form}
+use Rattle.rv_table.specs.declared.rows.Row.{Row}
 use Rattle.rv_table.specs.MachineForm.{EncodesX, x_word_of}
 use Rattle.rv_table.specs.declared.instructions.XInstr.{XInstr}
 use Rattle.rv_table.specs.declared.instructions.Instr.{Instr}

@@ -1,16 +1,14 @@
 //! For each form, the word of an instruction whose row has it.
 ghost use Rattle.std.specs.Prelude.{◌≡◌, ◌^◌, ◌<◌, IfSome, IfNone};
 ghost use Rattle.rv_table.specs.Instruction.{row_of, Encodes, IsInstr};
-ghost use Rattle.rv_encode.specs.Rows.{row_seen};
 
 use crate::placing::{branch_high, branch_low, jump_field, placed, placed_long, top};
 use crate::ranges::{below, signed_12, signed_13, signed_21, signed_32};
-use crate::rows::{Form, Row};
-use rv_table::Instr;
+use rv_table::{Form, Instr, Row};
 
 #[tactic(auto, using(crate::proofs::Spelling::encodes_by, crate::proofs::Spelling::fits_by))]
 pub fn upper(row: Row, instr: &Instr) -> Option<u32>
-    requires row { row_seen row ≡ row_of instr.now.op }
+    requires row { row ≡ row_of instr.now.op }
     requires form { row.form ≡ Form.Upper }
     requires opcode { row.opcode < 2 ^ 7 }
     ensures some { IfSome result (λ w. Encodes instr.now w) }
@@ -28,7 +26,7 @@ pub fn upper(row: Row, instr: &Instr) -> Option<u32>
 
 #[tactic(auto, using(crate::proofs::Spelling::encodes_by, crate::proofs::Spelling::fits_by))]
 pub fn jump(row: Row, instr: &Instr) -> Option<u32>
-    requires row { row_seen row ≡ row_of instr.now.op }
+    requires row { row ≡ row_of instr.now.op }
     requires form { row.form ≡ Form.Jump }
     requires opcode { row.opcode < 2 ^ 7 }
     ensures some { IfSome result (λ w. Encodes instr.now w) }
@@ -46,7 +44,7 @@ pub fn jump(row: Row, instr: &Instr) -> Option<u32>
 
 #[tactic(auto, using(crate::proofs::Spelling::encodes_by, crate::proofs::Spelling::fits_by))]
 pub fn branch(row: Row, instr: &Instr) -> Option<u32>
-    requires row { row_seen row ≡ row_of instr.now.op }
+    requires row { row ≡ row_of instr.now.op }
     requires form { row.form ≡ Form.Branch }
     requires opcode { row.opcode < 2 ^ 7 }
     requires funct3 { row.funct3 < 2 ^ 3 }
@@ -66,7 +64,7 @@ pub fn branch(row: Row, instr: &Instr) -> Option<u32>
 
 #[tactic(auto, using(crate::proofs::Spelling::encodes_by, crate::proofs::Spelling::fits_by))]
 pub fn immediate(row: Row, instr: &Instr) -> Option<u32>
-    requires row { row_seen row ≡ row_of instr.now.op }
+    requires row { row ≡ row_of instr.now.op }
     requires form { row.form ≡ Form.Immediate }
     requires opcode { row.opcode < 2 ^ 7 }
     requires funct3 { row.funct3 < 2 ^ 3 }
@@ -82,7 +80,7 @@ pub fn immediate(row: Row, instr: &Instr) -> Option<u32>
 
 #[tactic(auto, using(crate::proofs::Spelling::encodes_by, crate::proofs::Spelling::fits_by))]
 pub fn storing(row: Row, instr: &Instr) -> Option<u32>
-    requires row { row_seen row ≡ row_of instr.now.op }
+    requires row { row ≡ row_of instr.now.op }
     requires form { row.form ≡ Form.Storing }
     requires opcode { row.opcode < 2 ^ 7 }
     requires funct3 { row.funct3 < 2 ^ 3 }
@@ -104,7 +102,7 @@ pub fn storing(row: Row, instr: &Instr) -> Option<u32>
 
 #[tactic(auto, using(crate::proofs::Spelling::encodes_by, crate::proofs::Spelling::fits_by))]
 pub fn register(row: Row, instr: &Instr) -> Option<u32>
-    requires row { row_seen row ≡ row_of instr.now.op }
+    requires row { row ≡ row_of instr.now.op }
     requires form { row.form ≡ Form.Register }
     requires opcode { row.opcode < 2 ^ 7 }
     requires funct3 { row.funct3 < 2 ^ 3 }
@@ -126,7 +124,7 @@ pub fn register(row: Row, instr: &Instr) -> Option<u32>
 
 #[tactic(auto, using(crate::proofs::Spelling::encodes_by, crate::proofs::Spelling::fits_by))]
 pub fn shift6(row: Row, instr: &Instr) -> Option<u32>
-    requires row { row_seen row ≡ row_of instr.now.op }
+    requires row { row ≡ row_of instr.now.op }
     requires form { row.form ≡ Form.Shift6 }
     requires opcode { row.opcode < 2 ^ 7 }
     requires funct3 { row.funct3 < 2 ^ 3 }
@@ -149,7 +147,7 @@ pub fn shift6(row: Row, instr: &Instr) -> Option<u32>
 
 #[tactic(auto, using(crate::proofs::Spelling::encodes_by, crate::proofs::Spelling::fits_by))]
 pub fn shift5(row: Row, instr: &Instr) -> Option<u32>
-    requires row { row_seen row ≡ row_of instr.now.op }
+    requires row { row ≡ row_of instr.now.op }
     requires form { row.form ≡ Form.Shift5 }
     requires opcode { row.opcode < 2 ^ 7 }
     requires funct3 { row.funct3 < 2 ^ 3 }
@@ -172,7 +170,7 @@ pub fn shift5(row: Row, instr: &Instr) -> Option<u32>
 
 #[tactic(auto, using(crate::proofs::Spelling::encodes_by, crate::proofs::Spelling::fits_by))]
 pub fn atomic(row: Row, instr: &Instr) -> Option<u32>
-    requires row { row_seen row ≡ row_of instr.now.op }
+    requires row { row ≡ row_of instr.now.op }
     requires form { row.form ≡ Form.Atomic }
     requires opcode { row.opcode < 2 ^ 7 }
     requires funct3 { row.funct3 < 2 ^ 3 }
@@ -195,7 +193,7 @@ pub fn atomic(row: Row, instr: &Instr) -> Option<u32>
 
 #[tactic(auto, using(crate::proofs::Spelling::encodes_by, crate::proofs::Spelling::fits_by))]
 pub fn reserving(row: Row, instr: &Instr) -> Option<u32>
-    requires row { row_seen row ≡ row_of instr.now.op }
+    requires row { row ≡ row_of instr.now.op }
     requires form { row.form ≡ Form.Reserving }
     requires opcode { row.opcode < 2 ^ 7 }
     requires funct3 { row.funct3 < 2 ^ 3 }
@@ -218,7 +216,7 @@ pub fn reserving(row: Row, instr: &Instr) -> Option<u32>
 
 #[tactic(auto, using(crate::proofs::Spelling::encodes_by, crate::proofs::Spelling::fits_by))]
 pub fn fencing(row: Row, instr: &Instr) -> Option<u32>
-    requires row { row_seen row ≡ row_of instr.now.op }
+    requires row { row ≡ row_of instr.now.op }
     requires form { row.form ≡ Form.Fencing }
     requires opcode { row.opcode < 2 ^ 7 }
     requires funct3 { row.funct3 < 2 ^ 3 }
@@ -234,7 +232,7 @@ pub fn fencing(row: Row, instr: &Instr) -> Option<u32>
 
 #[tactic(auto, using(crate::proofs::Spelling::encodes_by, crate::proofs::Spelling::fits_by))]
 pub fn whole(row: Row, instr: &Instr) -> Option<u32>
-    requires row { row_seen row ≡ row_of instr.now.op }
+    requires row { row ≡ row_of instr.now.op }
     requires form { row.form ≡ Form.Whole }
     requires opcode { row.opcode < 2 ^ 7 }
     requires above { row.above < 2 ^ 12 }

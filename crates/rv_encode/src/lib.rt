@@ -21,8 +21,8 @@ use forms::{
 pub use laws::known_words;
 use placing::{placed, placed_long, top};
 use ranges::signed_12;
-use rows::{Form, row_for};
-use rv_table::{Instr, Op, XInstr};
+use rows::row_for;
+use rv_table::{Form, Instr, Op, XInstr};
 
 fn word_for(instr: &Instr) -> Option<u32>
     ensures some { IfSome result (λ w. Encodes instr.now w) }

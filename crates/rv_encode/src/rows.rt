@@ -1,35 +1,9 @@
 //! The rows of the table, for each mnemonic (RISC-V Unprivileged ISA, "RV32/64G Instruction Set Listings").
 ghost use Rattle.std.specs.Prelude.{◌≡◌, ◌<◌, ◌^◌};
 ghost use Rattle.rv_table.specs.Instruction.{row_of};
-ghost use Rattle.rv_encode.specs.Rows.{row_seen, above_width};
+ghost use Rattle.rv_encode.specs.Rows.{above_width};
 
-use rv_table::Op;
-
-/// Where an instruction has its fields, as `Form` of the table.
-#[derive(Clone, Copy)]
-pub enum Form {
-    Upper,
-    Jump,
-    Branch,
-    Immediate,
-    Storing,
-    Register,
-    Shift6,
-    Shift5,
-    Atomic,
-    Reserving,
-    Fencing,
-    Whole,
-}
-
-/// A row of the table.
-#[derive(Clone, Copy)]
-pub struct Row {
-    pub form: Form,
-    pub opcode: u32,
-    pub funct3: u32,
-    pub above: u32,
-}
+use rv_table::{Form, Op, Row};
 
 const fn new_row(form: Form, opcode: u32, funct3: u32, above: u32) -> Row
     ensures { result ≡ record { form = form; opcode = opcode; funct3 = funct3; above = above } }
@@ -44,7 +18,7 @@ const fn new_row(form: Form, opcode: u32, funct3: u32, above: u32) -> Row
 
 #[tactic(auto, unfolding(rv_table::specs::Instruction::row_of))]
 pub fn row_for(op: Op) -> Row
-    ensures row { row_seen result ≡ row_of op }
+    ensures row { result ≡ row_of op }
     ensures opcode { result.opcode < 2 ^ 7 }
     ensures funct3 { result.funct3 < 2 ^ 3 }
     ensures above { result.above < 2 ^ above_width result.form }

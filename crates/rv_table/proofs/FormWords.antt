@@ -1,7 +1,7 @@
 -- For each form: the fields that a word has make that word.
 use Rattle.std.proofs.Common.{◌≡◌, ℕ, pos, ◌+◌, ◌*◌, ◌/◌, ◌%◌, ◌^◌, ◌<◌, arith}
 use Rattle.rv_table.specs.Instruction.{Encodes, row, row_of, low_bits, IsSigned}
-use Rattle.rv_table.specs.Instruction.Form.{Upper, Jump, Branch, Immediate, Storing, Register, Shift6, Shift5, Atomic, Reserving, Fencing, Whole}
+use Rattle.rv_table.specs.declared.rows.Form.TheVariants.{Upper, Jump, Branch, Immediate, Storing, Register, Shift6, Shift5, Atomic, Reserving, Fencing, Whole}
 use Rattle.rv_table.specs.declared.instructions.Instr.{Instr}
 
 module _ (i : Instr) (w : ℕ) (h : w < 2 ^ 32) where

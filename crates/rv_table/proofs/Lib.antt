@@ -1,5 +1,5 @@
 pub mod FormWords
 pub mod MachineWords
 pub mod OneInstr
+pub mod OneRow
 pub mod Reading
-pub mod Rows

@@ -3,12 +3,14 @@ use Rattle.std.proofs.Common.{◌≡◌, ℕ, ℤ, pos, negsuc, ◌+◌, ◌-◌
 use Rattle.std.proofs.Math.Nat.{pow-suc}
 use Rattle.std.specs.Prelude.{◌||◌, IfNone, IfSome}
 use Rattle.std.proofs.lemmas.Bool.{le-ltb, lt-ltb}
-use Rattle.rv_table.specs.Instruction.{Form, Row, row, row_of, op_at, fields, FieldsFit, Encodes, low_bits, IsSigned, IsUnsigned}
-use Rattle.rv_table.specs.Instruction.Form.{Upper, Jump, Branch, Immediate, Storing, Register, Shift6, Shift5, Atomic, Reserving, Fencing, Whole}
+use Rattle.rv_table.specs.Instruction.{row, row_of, op_at, fields, FieldsFit, Encodes, low_bits, IsSigned, IsUnsigned}
+use Rattle.rv_table.specs.declared.rows.Form.{Form}
+use Rattle.rv_table.specs.declared.rows.Form.TheVariants.{Upper, Jump, Branch, Immediate, Storing, Register, Shift6, Shift5, Atomic, Reserving, Fencing, Whole}
+use Rattle.rv_table.specs.declared.rows.Row.{Row}
 use Rattle.rv_table.specs.declared.instructions.Op.{Op}
 use Rattle.rv_table.specs.declared.instructions.Op.TheVariants.{Lui}
 use Rattle.rv_table.specs.declared.instructions.Instr.{Instr}
-use Rattle.rv_table.proofs.Rows.{op_at-row_of}
+use Rattle.rv_table.proofs.OneRow.{op_at-row_of}
 
 -- the row that a word has if it has one, by its opcode, funct3, top 7, 6 and 5 bits, the bits of rs2, and the word
 unfoldable pub row_by : (o f t7 t6 t5 s w : ℕ) → Option Row

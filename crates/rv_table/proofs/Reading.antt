@@ -2,12 +2,14 @@
 use Rattle.std.proofs.Common.{◌≡◌, ℕ, ◌+◌, ◌*◌, ◌/◌, ◌%◌, ◌^◌, ◌<◌, Bool, true, List, [], ◌∷◌, Option, Some, None, refl, sym, ap, subst, inl, inr, arith}
 use Rattle.std.specs.Prelude.{find, IfSome, IfNone, ◌⊎◌}
 use Rattle.std.proofs.lemmas.Bool.{and_parts, and_from, eqb-true, eq-eqb, cases_Bool, cases_lt, lt-ltb, le-ltb}
-use Rattle.rv_table.specs.Instruction.{Form, Row, row_of, op_at, all_ops, same_row, fields, FieldsFit, Encodes, low_bits, IsSigned}
-use Rattle.rv_table.specs.Instruction.Form.{Upper, Jump, Branch, Immediate, Storing, Register, Shift6, Shift5, Atomic, Reserving, Fencing, Whole}
+use Rattle.rv_table.specs.Instruction.{row_of, op_at, all_ops, same_row, fields, FieldsFit, Encodes, low_bits, IsSigned}
+use Rattle.rv_table.specs.declared.rows.Form.{Form}
+use Rattle.rv_table.specs.declared.rows.Form.TheVariants.{Upper, Jump, Branch, Immediate, Storing, Register, Shift6, Shift5, Atomic, Reserving, Fencing, Whole}
+use Rattle.rv_table.specs.declared.rows.Row.{Row}
 use Rattle.rv_table.specs.Decoding.{decoded, op_in, read, has_row, signed_bits}
 use Rattle.rv_table.specs.declared.instructions.Op.{Op}
 use Rattle.rv_table.specs.declared.instructions.Instr.{Instr}
-use Rattle.rv_table.proofs.Rows.{op_at-row_of, find_passes}
+use Rattle.rv_table.proofs.OneRow.{op_at-row_of, find_passes}
 use Rattle.rv_table.proofs.OneInstr.{Keys, keys_of, one_instr, pow_two, row_fits}
 
 pub cases_option : {A : Type 0} (o : Option A) → (o ≡ None) ⊎ ((x : A) × (o ≡ Some x))

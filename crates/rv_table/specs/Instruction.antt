@@ -5,34 +5,9 @@ use Rattle.std.specs.Prelude.{◌≡◌, ℕ, ℤ, pos, negsuc, ◌+◌, ◌-◌
 use Rattle.rv_table.specs.declared.instructions.Op.{Op}
 use Rattle.rv_table.specs.declared.instructions.Op.TheVariants.{Lui, Auipc, Jal, Jalr, Beq, Bne, Blt, Bge, Bltu, Bgeu, Lb, Lh, Lw, Ld, Lbu, Lhu, Lwu, Sb, Sh, Sw, Sd, Addi, Slti, Sltiu, Xori, Ori, Andi, Slli, Srli, Srai, Add, Sll, Slt, Sltu, Xor, Srl, Or, And, Sub, Sra, Mul, Mulh, Mulhsu, Mulhu, Div, Divu, Rem, Remu, Addiw, Slliw, Srliw, Sraiw, Addw, Sllw, Srlw, Subw, Sraw, Mulw, Divw, Divuw, Remw, Remuw, Fence, Ecall, Ebreak, LrW, ScW, AmoswapW, AmoaddW, AmoxorW, AmoandW, AmoorW, AmominW, AmomaxW, AmominuW, AmomaxuW, LrD, ScD, AmoswapD, AmoaddD, AmoxorD, AmoandD, AmoorD, AmominD, AmomaxD, AmominuD, AmomaxuD}
 use Rattle.rv_table.specs.declared.instructions.Instr.{Instr}
-
--- Where the fields of a word lie: the manual's formats U, J, B, I, S and R ("Base Instruction Formats"); an I with a
--- shift amount of six bits (RV64I, "Integer Register-Immediate Instructions") or of five (its W forms); an R with aq
--- and rl above rs2, and the same with rs2 0 for LR ("A" extension, "Specifying Ordering of Atomic Instructions");
--- FENCE, whose upper twelve bits are kept as they are (RV32I, "Memory Ordering Instructions"); and the words of ECALL
--- and EBREAK, which have no field (RV32I, "Environment Call and Breakpoints").
-pub data Form : Type 0 where
-  Upper : Form
-  Jump : Form
-  Branch : Form
-  Immediate : Form
-  Storing : Form
-  Register : Form
-  Shift6 : Form
-  Shift5 : Form
-  Atomic : Form
-  Reserving : Form
-  Fencing : Form
-  Whole : Form
-
--- A row of the listings: the opcode (bits 6 to 0), funct3 (bits 14 to 12), and the number that stands above the fields
--- of the form: funct7 for an R and a shift by five bits, bits 31 to 26 for a shift by six, bits 31 to 27 for an atomic,
--- bits 31 to 20 for ECALL and EBREAK. A number that the form lacks is 0.
-pub record Row : Type 0 where
-  pub form : Form
-  pub opcode : ℕ
-  pub funct3 : ℕ
-  pub above : ℕ
+use Rattle.rv_table.specs.declared.rows.Form.{Form}
+use Rattle.rv_table.specs.declared.rows.Form.TheVariants.{Upper, Jump, Branch, Immediate, Storing, Register, Shift6, Shift5, Atomic, Reserving, Fencing, Whole}
+use Rattle.rv_table.specs.declared.rows.Row.{Row}
 
 -- the row of these four
 abbrev pub row : Form → ℕ → ℕ → ℕ → Row

@@ -3,7 +3,7 @@
 -- custom-1 (0x2b). Their fields lie as those of the manual's formats U, S and I.
 use Rattle.std.specs.Prelude.{◌≡◌, ℕ, ◌+◌, ◌*◌, ◌/◌, ◌%◌, ◌^◌, ◌<◌, ◌==◌, ◌&&◌, Bool, Option, Some, None, if◌then◌else◌}
 use Rattle.rv_table.specs.Instruction.{row, fields, FieldsFit}
-use Rattle.rv_table.specs.Instruction.Form.{Immediate, Storing}
+use Rattle.rv_table.specs.declared.rows.Form.TheVariants.{Immediate, Storing}
 use Rattle.rv_table.specs.Decoding.{signed_bits, rd_in, rs1_in, rs2_in}
 use Rattle.rv_table.specs.declared.instructions.XInstr.{XInstr}
 use Rattle.rv_table.specs.declared.instructions.XInstr.TheVariants.{Lit, Sra, Lra, Tjalr}

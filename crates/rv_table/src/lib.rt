@@ -2,5 +2,7 @@
 #![tactic(auto)]
 
 mod instructions;
+mod rows;
 
 pub use instructions::{Instr, Op, Reservation, XInstr};
+pub use rows::{Form, Row};

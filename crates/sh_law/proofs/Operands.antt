@@ -17,8 +17,9 @@ use Rattle.sh_machines.specs.Copy.{saves as saves_word, restores}
 use Rattle.rv_table.specs.Decoding.{decoded, op_in, read}
 use Rattle.sh_machines.specs.Fine.{IsFine, SiteFits}
 use Rattle.sh_types.specs.Image.{sizes_of, word_at, site_at, row_at}
-use Rattle.rv_table.specs.Instruction.{Form, row_of}
-use Rattle.rv_table.specs.Instruction.Form.{Upper, Branch, Storing, Register, Atomic}
+use Rattle.rv_table.specs.Instruction.{row_of}
+use Rattle.rv_table.specs.declared.rows.Form.{Form}
+use Rattle.rv_table.specs.declared.rows.Form.TheVariants.{Upper, Branch, Storing, Register, Atomic}
 use Rattle.sh_machines.specs.Kind.{Kind, Sets, Computes, Passes, Loads, Stores, Atomics, Saves, Restores, CallsTo, JumpsTo, Branches, CallsThrough, JumpsThrough, GoesBack, Asks, Breaks, Illegal, Past, opcode_of, is_system, plain_kind, framed_kind, word_kind, kind_at}
 use Rattle.rv_table.specs.Operands.{is_register, reads_ra, both_ra, width_of, is_lr}
 use Rattle.sh_machines.specs.Uses.{reads_rs1, reads_rs2, is_reserving, has_operand, bytes_of}

@@ -7,8 +7,9 @@ use Rattle.sh_types.specs.declared.code.Pair.{Pair}
 use Rattle.sh_types.specs.declared.code.Region.{Region}
 use Rattle.rv_table.specs.declared.instructions.Instr.{Instr}
 use Rattle.rv_table.specs.declared.instructions.Op.{Op}
-use Rattle.rv_table.specs.Instruction.{Form, row_of}
-use Rattle.rv_table.specs.Instruction.Form.{Upper, Jump, Branch, Immediate, Storing, Register, Shift6, Shift5, Atomic, Reserving, Fencing, Whole}
+use Rattle.rv_table.specs.Instruction.{row_of}
+use Rattle.rv_table.specs.declared.rows.Form.{Form}
+use Rattle.rv_table.specs.declared.rows.Form.TheVariants.{Upper, Jump, Branch, Immediate, Storing, Register, Shift6, Shift5, Atomic, Reserving, Fencing, Whole}
 use Rattle.sh_machines.specs.Kind.{Kind, Sets, Computes, Passes, Loads, Stores, Atomics, Saves, Restores, CallsTo, JumpsTo, Branches, CallsThrough, JumpsThrough, GoesBack, Asks, Breaks, Illegal, Past, kind_at}
 use Rattle.sh_machines.specs.Memory.{readable, writable}
 use Rattle.rv_table.specs.Operands.{plus_imm}
