@@ -1,6 +1,7 @@
--- The cells of the layouts: one of those that none of the last 64 layouts had. This project's own rule.
+-- The cells of the layouts: one of those that none of the last layouts had. This project's own rule.
 use Rattle.std.specs.Prelude.{ℕ, zero, suc, ◌+◌, ◌-◌, ◌%◌, ◌==◌, Bool, List, [], ◌∷◌, ◌++◌, length, not, slice_index}
 use Rattle.std.specs.List.{filter, list_any, range_with_len}
+use Rattle.sh_types.specs.Limits.{cell_count}
 use Rattle.sh_types.specs.Recent.{last_64}
 use Rattle.layout_maker.specs.Draws.{draws_of, generator_of}
 
@@ -14,7 +15,7 @@ free_from recent c n = filter (is_free recent) (range_with_len c n)
 
 -- the cell that a draw gives
 unfoldable pub cell_by : ℕ → List ℕ → ℕ
-cell_by w recent = slice_index (free_from recent 0 256) (w % (256 - length recent))
+cell_by w recent = slice_index (free_from recent 0 cell_count) (w % (cell_count - length recent))
 
 -- the cells of the layouts 1 to k
 unfoldable pub cells_of : List ℕ → ℕ → List ℕ

@@ -3,6 +3,7 @@
 use Rattle.std.specs.Prelude.{ℕ, ◌-◌, ◌*◌, List, length, map}
 use Rattle.std.specs.List.{range_with_len}
 use Rattle.sh_types.specs.declared.layouts.Layout.{Layout}
+use Rattle.sh_types.specs.Limits.{most_harts}
 use Rattle.sh_types.specs.Place.{cell_start}
 use Rattle.layout_maker.specs.Draws.{draws_of, generator_of, from_draw}
 use Rattle.layout_maker.specs.Cell.{cell_of}
@@ -10,9 +11,9 @@ use Rattle.layout_maker.specs.Order.{order_by}
 use Rattle.layout_maker.specs.Spots.{share_of, places_by}
 use Rattle.sh_types.specs.Sized.{total}
 
--- the keys of the harts 0 to 63
+-- the keys of the harts
 unfoldable pub keys_by : (ℕ → ℕ) → List ℕ
-keys_by d = map d (range_with_len 0 64)
+keys_by d = map d (range_with_len 0 most_harts)
 
 -- the places of functions of these sizes in a cell: a draw for each swap, then one for each gap
 unfoldable pub placed_by : (ℕ → ℕ) → List ℕ → ℕ → List ℕ

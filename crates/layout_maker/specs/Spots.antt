@@ -1,10 +1,11 @@
 -- Where the functions lie: one behind the other, each after a gap, with a guard of 4 bytes behind it. This
 -- project's own rule.
 use Rattle.std.specs.Prelude.{ℕ, zero, suc, ◌+◌, ◌-◌, ◌*◌, ◌/◌, ◌%◌, List, length, replicate, slice_index, slice_set}
+use Rattle.sh_types.specs.Limits.{cell_size}
 
 -- the room that a cell leaves to each of n functions that take so many bytes, each with its guard
 abbrev pub share_of : ℕ → ℕ → ℕ
-share_of taken n = (1048576 - taken) / n
+share_of taken n = (cell_size - taken) / n
 
 -- the gap before the function at place p of the order: a multiple of 4 that is no more than its share
 abbrev pub gap_by : (ℕ → ℕ) → ℕ → ℕ → ℕ

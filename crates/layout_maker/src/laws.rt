@@ -3,6 +3,7 @@ ghost use Rattle.std.specs.Prelude.{◌≡◌, ◌≢◌, ℕ, ◌+◌, ◌-◌,
 ghost use Rattle.std.specs.List.{range_with_len};
 ghost use Rattle.sh_types.specs.declared.code.Pair.{Pair};
 ghost use Rattle.sh_types.specs.Place.{WellPlaced, IsPair, place_of};
+ghost use Rattle.sh_types.specs.Limits.{recent_cells};
 ghost use Rattle.sh_types.specs.Sized.{IsSized};
 ghost use Rattle.layout_maker.specs.Cell.{recent_of};
 ghost use Rattle.layout_maker.specs.Order.{order_by};
@@ -19,10 +20,10 @@ pub fn keys_are_small()
     ensures { (sizes seed : List ℕ) (k n : ℕ) → slice_index (layout_of sizes seed k).keys n < 2 ^ 64 }
 {}
 
-/// A place of a layout is a place of none of the next 64.
+/// A place of a layout is a place of none of the next layouts that leave its cell alone.
 #[tactic(auto, using(crate::proofs::Placed::places_new))]
 pub fn places_are_new()
-    ensures { (sizes seed : List ℕ) (k m : ℕ) (p q : Pair) → IsSized sizes → 0 < k → k < m → m ≤ k + 64 → IsPair sizes p → IsPair sizes q → place_of (layout_of sizes seed k) p ≢ place_of (layout_of sizes seed m) q }
+    ensures { (sizes seed : List ℕ) (k m : ℕ) (p q : Pair) → IsSized sizes → 0 < k → k < m → m ≤ k + recent_cells → IsPair sizes p → IsPair sizes q → place_of (layout_of sizes seed k) p ≢ place_of (layout_of sizes seed m) q }
 {}
 
 /// The order has each function once.
@@ -38,9 +39,9 @@ pub fn gaps_are_within_shares()
     ensures whole { (d : ℕ → ℕ) (share p : ℕ) → gap_by d share p % 4 ≡ 0 }
 {}
 
-/// Before the first layout no cell is recent, and before each other one those of the last 64 layouts are.
+/// Before the first layout no cell is recent, and before each other one those of the last layouts are, recent_cells at most.
 #[tactic(auto, using(crate::proofs::Cells::recent_first, crate::proofs::Cells::recent_count))]
 pub fn recent_cells_are_counted()
     ensures first { (seed : List ℕ) → recent_of seed 1 ≡ [] }
-    ensures many { (seed : List ℕ) (k : ℕ) → length (recent_of seed k) ≡ min (k - 1) 64 }
+    ensures many { (seed : List ℕ) (k : ℕ) → length (recent_of seed k) ≡ min (k - 1) recent_cells }
 {}

@@ -1,5 +1,6 @@
 //! The layout with a number.
 ghost use Rattle.std.specs.Prelude.{◌≡◌, [], ◌∷◌, ◌++◌, ◌+◌, ◌-◌, ◌*◌, ◌≤◌, ◌<◌, ◌^◌, IfOk, length};
+ghost use Rattle.sh_types.specs.Limits.{cell_size, most_functions};
 ghost use Rattle.sh_types.specs.Place.{WellPlaced, cell_start};
 ghost use Rattle.layout_maker.specs.Draws.{draws_of, skip};
 ghost use Rattle.layout_maker.specs.Cell.{cell_of, recent_of};
@@ -13,17 +14,18 @@ use crate::draws::{draw, generator};
 use crate::order::order;
 use crate::spots::{spots, total};
 use rand_chacha::ChaCha20Rng;
+use sh_types::limits::{CELL_SIZE, FIRST_CELL, MOST_HARTS};
 use sh_types::{Items, Layout, NoMemory};
 use std::alloc::{AllocError, Global};
 
-/// The keys of the 64 harts, by a draw for each.
+/// The keys of the harts, by a draw for each.
 #[tactic(auto, using(crate::proofs::Keying::keys_none, crate::proofs::Keying::keys_more, crate::proofs::Keying::keys_all, crate::proofs::Drawing::skip_none, crate::proofs::Drawing::skip_more, crate::proofs::Drawing::draws_next))]
 fn keys(alloc: Global, rng: &mut ChaCha20Rng) -> Result<Vec<u64>, AllocError>
     requires { rng.old.word_pos < 2 ^ 40 }
     ensures { IfOk result (λ v. v.items ≡ keys_by (draws_of rng.old)) }
 {
-    let mut keys = Vec::with_capacity(alloc, 64)?;
-    for i in 0..64usize {
+    let mut keys = Vec::with_capacity(alloc, MOST_HARTS as usize)?;
+    for i in 0..MOST_HARTS {
         let key = draw(rng);
         keys.push(key)?;
     }
@@ -40,15 +42,15 @@ fn placed(
 ) -> Result<Vec<u64>, AllocError>
     requires room { rng.old.word_pos < 2 ^ 30 }
     requires some { 0 < length sizes.now }
-    requires few { length sizes.now ≤ 16384 }
+    requires few { length sizes.now ≤ most_functions }
     requires start { start < 2 ^ 60 }
-    requires fits { total_of sizes.now ≤ 1048576 }
+    requires fits { total_of sizes.now ≤ cell_size }
     ensures places { IfOk result (λ v. v.items ≡ placed_by (draws_of rng.old) sizes.now start) }
     ensures rest { IfOk result (λ v. rng.new ≡ skip (2 * length sizes.now - 1) rng.old) }
 {
     let n = sizes.len();
     let order = order(alloc, rng, n)?;
-    let share = (1_048_576 - total(sizes)) / n as u64;
+    let share = (CELL_SIZE - total(sizes)) / n as u64;
     spots(alloc, rng, share, order.as_slice(), sizes, start)
 }
 
@@ -57,7 +59,7 @@ fn start_of(cell: u32) -> u64
     ensures is { result ≡ cell_start cell }
     ensures small { result < 2 ^ 60 }
 {
-    0x4000_0000 + 0x10_0000 * u64::from(cell)
+    FIRST_CELL + CELL_SIZE * u64::from(cell)
 }
 
 /// The parts of the layout with this number.
@@ -89,7 +91,7 @@ fn made(
 }
 
 /// The layout with this number of functions of these sizes, by the stream of the seed. `recent` has the cells of
-/// the last 64 layouts before it, the oldest first. Err only where memory is refused.
+/// the last layouts before it, RECENT_CELLS at most, the oldest first. Err only where memory is refused.
 #[tactic(auto, using(crate::proofs::Making::made_recent, crate::proofs::Making::made_sizes))]
 pub fn make_layout(
     alloc: Global,
@@ -110,8 +112,8 @@ pub fn make_layout(
     Ok(layout)
 }
 
-/// The cell of the layout with this number. `recent` has the cells of the last 64 layouts before it, the oldest
-/// first. It takes no memory.
+/// The cell of the layout with this number. `recent` has the cells of the last layouts before it,
+/// RECENT_CELLS at most, the oldest first. It takes no memory.
 #[tactic(auto, unfolding(crate::specs::Cell::cell_of), using(crate::proofs::Cells::recent_length, crate::proofs::Cells::recent_more))]
 pub fn cell_at(seed: &[u8; 32], number: u64, recent: &[u32]) -> u32
     requires number { 0 < number }

@@ -1,6 +1,7 @@
 //! The order in which the functions lie.
 ghost use Rattle.std.specs.Prelude.{◌≡◌, ◌+◌, ◌-◌, ◌≤◌, ◌<◌, ◌^◌, IfOk, length, ℕ, slice_index};
 ghost use Rattle.std.specs.List.{range_with_len};
+ghost use Rattle.sh_types.specs.Limits.{most_functions};
 ghost use Rattle.layout_maker.specs.Draws.{draws_of, skip};
 ghost use Rattle.layout_maker.specs.Order.{order_by};
 
@@ -25,7 +26,7 @@ fn rising(alloc: Global, n: usize) -> Result<Vec<usize>, AllocError>
 fn shuffle(rng: &mut ChaCha20Rng, order: &mut Vec<usize>, n: usize)
     requires room { rng.old.word_pos < 2 ^ 40 }
     requires some { 0 < n }
-    requires few { n ≤ 16384 }
+    requires few { n ≤ most_functions }
     requires rising { order.old.items ≡ range_with_len 0 n }
     ensures order { order.new.items ≡ order_by (draws_of rng.old) n }
     ensures rest { rng.new ≡ skip (n - 1) rng.old }
@@ -43,7 +44,7 @@ fn shuffle(rng: &mut ChaCha20Rng, order: &mut Vec<usize>, n: usize)
 pub fn order(alloc: Global, rng: &mut ChaCha20Rng, n: usize) -> Result<Vec<usize>, AllocError>
     requires room { rng.old.word_pos < 2 ^ 40 }
     requires some { 0 < n }
-    requires few { n ≤ 16384 }
+    requires few { n ≤ most_functions }
     ensures order { IfOk result (λ v. v.items ≡ order_by (draws_of rng.old) n) }
     ensures many { IfOk result (λ v. length v.items ≡ n) }
     ensures below { IfOk result (λ v. (p : ℕ) → p < n → slice_index v.items p < n) }

@@ -1,5 +1,6 @@
 //! The places of the functions.
 ghost use Rattle.std.specs.Prelude.{◌≡◌, ◌+◌, ◌-◌, ◌*◌, ◌≤◌, ◌<◌, ◌^◌, IfOk, length, ℕ, slice_index};
+ghost use Rattle.sh_types.specs.Limits.{cell_size, most_functions};
 ghost use Rattle.layout_maker.specs.Draws.{draws_of, skip};
 ghost use Rattle.layout_maker.specs.Spots.{places_by};
 ghost use Rattle.sh_types.specs.Sized.{total as total_of};
@@ -10,7 +11,7 @@ use std::alloc::{AllocError, Global};
 
 /// The bytes of functions of these sizes, each with its guard.
 pub fn total(sizes: &[u32]) -> u64
-    requires { length sizes.now ≤ 16384 }
+    requires { length sizes.now ≤ most_functions }
     ensures { result ≡ total_of sizes.now }
 {
     let mut sum = 0u64;
@@ -33,8 +34,8 @@ pub fn spots(
 ) -> Result<Vec<u64>, AllocError>
     requires room { rng.old.word_pos < 2 ^ 40 }
     requires start { start < 2 ^ 60 }
-    requires share { share ≤ 1048576 }
-    requires few { length sizes.now ≤ 16384 }
+    requires share { share ≤ cell_size }
+    requires few { length sizes.now ≤ most_functions }
     requires many { length order.now ≡ length sizes.now }
     requires below { (p : ℕ) → p < length order.now → slice_index order.now p < length sizes.now }
     ensures places { IfOk result (λ v. v.items ≡ places_by (draws_of rng.old) share order.now sizes.now start (length sizes.now)) }
