@@ -1,5 +1,6 @@
 -- Sections by rising addresses, and where they start and end. This project's own.
 use Rattle.std.specs.Prelude.{◌+◌, ◌<◌, ◌≤◌, ℕ, List, length, slice_index_or}
+use Rattle.sh_types.specs.Limits.{image_end}
 use Rattle.elf_rules.specs.declared.elf.Head.{Head}
 
 -- each section ends at or below the start of the next
@@ -11,6 +12,6 @@ AreApart codes =
 abbrev pub StartsFrom : ℕ → Head → Type 0
 StartsFrom address h = address ≤ h.start
 
--- it ends at or below 0x3f000000
+-- it ends at or below image_end
 abbrev pub EndsLow : Head → Type 0
-EndsLow h = h.start + h.size ≤ 0x3f000000
+EndsLow h = h.start + h.size ≤ image_end

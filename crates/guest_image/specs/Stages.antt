@@ -3,6 +3,7 @@ use Rattle.std.specs.Prelude.{◌≡◌, ◌≤◌, ℕ, List, length, Option, S
 use Rattle.sh_types.specs.declared.code.Function.{Function}
 use Rattle.sh_types.specs.declared.symbols.Section.{Section}
 use Rattle.sh_types.specs.declared.symbols.Symbol.{Symbol}
+use Rattle.sh_types.specs.Limits.{most_code, most_functions, most_mapped}
 use Rattle.elf_rules.specs.declared.refusals.ElfFault.{ElfFault}
 use Rattle.elf_rules.specs.declared.refusals.ElfFault.TheVariants as elf
 use Rattle.elf_rules.specs.declared.refusals.LimitKind.TheVariants as kind
@@ -44,7 +45,7 @@ Passes (Err fault) refusal P = Stops fault refusal
 
 -- by the limits on functions
 unfoldable pub limit_refusal : List Function → Option LoadFault
-limit_refusal functions = or_later (above kind.Functions 16384 (length functions)) (above kind.Code 524288 (code_by functions))
+limit_refusal functions = or_later (above kind.Functions most_functions (length functions)) (above kind.Code most_code (code_by functions))
 
 -- by splitting, and what follows it
 unfoldable pub function_refusal : List Symbol → List Section → ℕ → Option LoadFault
@@ -55,7 +56,7 @@ function_refusal symbols sections entry =
 unfoldable pub symbol_refusal : List ℕ → Option LoadFault
 symbol_refusal b =
     or_later (by_rule (first_failing symbol_rules b))
-    (or_later (above kind.Mapped 67108864 (mapped_by (segments_of b))) (function_refusal (symbols_of b) (sections_of b) (entry_of b)))
+    (or_later (above kind.Mapped most_mapped (mapped_by (segments_of b))) (function_refusal (symbols_of b) (sections_of b) (entry_of b)))
 
 -- ---- what is accepted
 
@@ -63,7 +64,7 @@ symbol_refusal b =
 pub record AreFunctions (symbols : List Symbol) (sections : List Section) (entry : ℕ) (functions : List Function) : Type 0 where
   pub split : split_refusal symbols sections entry ≡ None
   pub are : functions ≡ functions_of symbols sections entry
-  pub few : length functions ≤ 16384
+  pub few : length functions ≤ most_functions
 
 -- these are the tables and the functions of the file
 pub record IsAccepted (b : List ℕ) (file : AcceptedFile) : Type 0 where

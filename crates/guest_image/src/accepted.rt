@@ -1,6 +1,7 @@
 //! The order in which a file is refused, and what an accepted file gives.
 ghost use Rattle.std.specs.Prelude.{◌≡◌, ◌≤◌, All, IsTrue, None, length};
 ghost use Rattle.std.specs.List.{list_any};
+ghost use Rattle.sh_types.specs.Limits.{most_functions};
 ghost use Rattle.elf_rules.specs.Accepted.{by_rule, by_split, refusal_of};
 ghost use Rattle.elf_rules.specs.Elf.{entry_of, sections_of, symbols_of};
 ghost use Rattle.elf_rules.specs.ElfRules.{IsReadFrom, first_failing, runs_at, symbol_rules, table_rules};
@@ -72,7 +73,7 @@ fn split_functions(
 /// Refuses too many functions, then too large ones.
 #[tactic(auto, unfolding(crate::specs::Stages::limit_refusal))]
 fn within_limits(functions: &[Function]) -> Result<(), LoadFault>
-    ensures { Passes result (limit_refusal functions.now) (λ _. length functions.now ≤ 16384) }
+    ensures { Passes result (limit_refusal functions.now) (λ _. length functions.now ≤ most_functions) }
 {
     limited_functions(functions)?;
     limited_code(functions)

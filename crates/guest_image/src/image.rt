@@ -3,6 +3,7 @@ ghost use Rattle.std.specs.Prelude.{◌≡◌, ◌≤◌, IfOk, length, unwrap_o
 ghost use Rattle.elf_rules.specs.Accepted.{codes_in_order, file_regions, loaded_image};
 ghost use Rattle.elf_rules.specs.ElfRules.{IsReadFrom};
 ghost use Rattle.sh_types.specs.Image.{number_of, starts_of};
+ghost use Rattle.sh_types.specs.Limits.{most_functions};
 ghost use Rattle.guest_image.specs.Order.{AreApart};
 ghost use Rattle.guest_image.specs.Stages.{IsAccepted};
 
@@ -19,7 +20,7 @@ use std::alloc::{AllocError, Global};
 
 /// The number of the function at the entry.
 fn entry_number(functions: &[Function], entry: u64) -> u32
-    requires { length functions.now ≤ 16384 }
+    requires { length functions.now ≤ most_functions }
     ensures { result ≡ unwrap_or (number_of (starts_of functions.now) entry) 0 }
 {
     functions

@@ -1,20 +1,13 @@
 //! What is limited, and the answer where there is more.
 ghost use Rattle.std.specs.Prelude.{◌≡◌, ◌≤◌, ◌<◌, ◌^◌, ⊤, length};
+ghost use Rattle.sh_types.specs.Limits.{most_code, most_functions, most_mapped};
 ghost use Rattle.elf_rules.specs.declared.refusals.LimitKind.TheVariants as kind;
 ghost use Rattle.elf_rules.specs.Accepted.{above, code_by, mapped_by};
 ghost use Rattle.guest_image.specs.Stages.{Passes};
 
 use elf_rules::{LimitKind, LoadFault, Segment};
 use sh_types::Function;
-
-/// The most bytes of the PT_LOAD segments in memory.
-const MOST_MAPPED: u64 = 67_108_864;
-
-/// The most functions.
-const MOST_FUNCTIONS: u64 = 16_384;
-
-/// The most bytes of functions.
-const MOST_CODE: u64 = 524_288;
+use sh_types::limits::{MOST_CODE, MOST_FUNCTIONS, MOST_MAPPED};
 
 fn limited(kind: LimitKind, most: u64, value: u64) -> Result<(), LoadFault>
     ensures { Passes result (above kind most value) (λ _. ⊤) }
@@ -40,20 +33,20 @@ pub fn mapped_by(segments: &[Segment]) -> u64
 /// Refuses more mapped bytes than the limit.
 pub fn limited_memory(segments: &[Segment]) -> Result<(), LoadFault>
     requires { mapped_by segments.now < 2 ^ 64 }
-    ensures { Passes result (above kind.Mapped 67108864 (mapped_by segments.now)) (λ _. ⊤) }
+    ensures { Passes result (above kind.Mapped most_mapped (mapped_by segments.now)) (λ _. ⊤) }
 {
     limited(LimitKind::Mapped, MOST_MAPPED, mapped_by(segments))
 }
 
 /// Refuses more functions than the limit.
 pub fn limited_functions(functions: &[Function]) -> Result<(), LoadFault>
-    ensures { Passes result (above kind.Functions 16384 (length functions.now)) (λ _. ⊤) }
+    ensures { Passes result (above kind.Functions most_functions (length functions.now)) (λ _. ⊤) }
 {
     limited(LimitKind::Functions, MOST_FUNCTIONS, functions.len() as u64)
 }
 
 fn code_by(functions: &[Function]) -> u64
-    requires { length functions.now ≤ 16384 }
+    requires { length functions.now ≤ most_functions }
     ensures { result ≡ code_by functions.now }
 {
     let mut sum = 0;
@@ -65,8 +58,8 @@ fn code_by(functions: &[Function]) -> u64
 
 /// Refuses more bytes of functions than the limit.
 pub fn limited_code(functions: &[Function]) -> Result<(), LoadFault>
-    requires { length functions.now ≤ 16384 }
-    ensures { Passes result (above kind.Code 524288 (code_by functions.now)) (λ _. ⊤) }
+    requires { length functions.now ≤ most_functions }
+    ensures { Passes result (above kind.Code most_code (code_by functions.now)) (λ _. ⊤) }
 {
     limited(LimitKind::Code, MOST_CODE, code_by(functions))
 }

@@ -5,15 +5,14 @@ ghost use Rattle.load_law.specs.Placed.{IsPlaced};
 ghost use Rattle.elf_rules.specs.declared.elf.Head.{Head};
 ghost use Rattle.elf_rules.specs.Accepted.{data_regions, piece, pieces, segment_bytes};
 ghost use Rattle.sh_types.specs.Image.{first_stack};
+ghost use Rattle.sh_types.specs.Limits.{stack_size};
 ghost use Rattle.guest_image.specs.Order.{EndsLow, StartsFrom};
 
 use crate::order::codes_within;
 use elf_rules::{Head, Segment};
+use sh_types::limits::{STACK_END, STACK_SIZE, STACK_START};
 use sh_types::{Bytes, Region};
 use std::alloc::{AllocError, Global};
-
-/// The size of the first stack, in bytes.
-const STACK_SIZE: usize = 0x10_0000;
 
 /// The bytes of a segment from one address up to another: those of the file, and zeros behind them.
 #[tactic(auto, unfolding(elf_rules::specs::Accepted::segment_bytes))]
@@ -118,14 +117,14 @@ fn zeros(alloc: Global, count: usize) -> Result<Bytes, AllocError>
     Ok(Bytes::from_vec(vec![in alloc; 0u8; count]?))
 }
 
-/// The first stack, of a mebibyte.
+/// The first stack.
 fn stack(alloc: Global, size: usize) -> Result<Region, AllocError>
-    requires { size ≡ 1048576 }
+    requires { size ≡ stack_size }
     ensures { IfOk result (λ region. region ≡ first_stack) }
 {
     Ok(Region {
-        start: 0x3ff0_0000,
-        end: 0x4000_0000,
+        start: STACK_START,
+        end: STACK_END,
         writable: true,
         bytes: zeros(alloc, size)?,
     })
