@@ -1,12 +1,14 @@
 //! The cells of the layouts, one after the other.
 ghost use Rattle.std.specs.Prelude.{◌≡◌, ◌≤◌, ◌+◌, ◌++◌, [], ◌∷◌, IfOk, OnOk, string_bytes, length};
 ghost use Rattle.sh_types.specs.Recent.{last_64};
+ghost use Rattle.sh_types.specs.Limits.{recent_cells};
 ghost use Rattle.layout_maker.specs.Cell.{cell_of};
 ghost use Rattle.period_report.specs.Kept.{IsKept};
 ghost use Rattle.period_report.specs.Text.{layout_line};
 
 use crate::lines;
 use layout_maker::cell_at;
+use sh_types::limits::RECENT_CELLS;
 use std::alloc::{AllocError, Global};
 
 /// The number of the newest layout, 0 before the first, and the cells that the next one may not have, the oldest
@@ -17,13 +19,13 @@ pub struct Cells {
     pub recent: Vec<u32>,
 }
 
-/// One more cell, of the last 64.
+/// One more cell, of the last RECENT_CELLS.
 fn keep(recent: &mut Vec<u32>, cell: u32) -> Result<(), AllocError>
-    requires { length recent.old.items ≤ 64 }
+    requires { length recent.old.items ≤ recent_cells }
     ensures kept { OnOk result (recent.new.items ≡ last_64 (recent.old.items ++ cell ∷ [])) }
-    ensures few { OnOk result (length recent.new.items ≤ 64) }
+    ensures few { OnOk result (length recent.new.items ≤ recent_cells) }
 {
-    if recent.len() == 64 {
+    if recent.len() == RECENT_CELLS {
         recent.remove(0);
     }
     recent.push(cell)?;

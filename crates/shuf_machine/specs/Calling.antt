@@ -6,6 +6,7 @@ use Rattle.sh_types.specs.declared.runs.Hart.{Hart}
 use Rattle.sh_machines.specs.Environment as defined
 use Rattle.sh_machines.specs.Environment.{Answers, Reads, Starts, ExitsHart, ExitsRun, LeaksWord, Request, call_of}
 use Rattle.sh_types.specs.Image.{sizes_of}
+use Rattle.sh_types.specs.Limits.{most_harts}
 use Rattle.sh_machines.specs.Memory.{bytes_from, writable}
 use Rattle.sh_machines.specs.Need.{stored_at}
 use Rattle.sh_machines.specs.Shuffled.{Setting, Shuffled, left, set_hart, hart_ends, stopped, pair_of, harts_lose, fills, new_hart, plain_value, hart_asks}
@@ -106,7 +107,7 @@ pub record CanRead (o : Setting) (s : Shuffled) (a n : ℕ) : Type 0 where
 -- a hart can be started at the function
 pub record CanStart (o : Setting) (s : Shuffled) (f : ℕ) : Type 0 where
   pub func : f < length (sizes_of o.image)
-  pub few : length s.harts < 64
+  pub few : length s.harts < most_harts
 
 abbrev pub CanAct : Setting → Shuffled → Answer → Type 0
 CanAct o s (answer.Value v) = Unit {0}

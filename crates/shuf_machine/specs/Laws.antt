@@ -3,6 +3,7 @@ use Rattle.std.specs.Prelude.{◌≡◌, ℕ, ℤ, ◌/◌, ◌≤◌, true, Lis
 use Rattle.sh_types.specs.declared.layouts.Layout.{Layout}
 use Rattle.sh_types.specs.declared.runs.Event.{Event}
 use Rattle.sh_types.specs.declared.runs.Hart.{Hart}
+use Rattle.sh_types.specs.Limits.{most_harts}
 use Rattle.sh_machines.specs.Chain.{Sound}
 use Rattle.sh_machines.specs.Copy.{copied}
 use Rattle.sh_machines.specs.Event.{state_after, IsLegalIn, written}
@@ -18,7 +19,7 @@ use Rattle.sh_law.specs.Reach.{IsPlaced}
 use Rattle.sh_law.specs.Sound.{IsOn, Stays}
 
 pub record Laws : Type 0 where
-  pub few : (o : Setting) (events : List Event) → IsLegalIn o events → length (state_after o events).harts ≤ 64
+  pub few : (o : Setting) (events : List Event) → IsLegalIn o events → length (state_after o events).harts ≤ most_harts
   pub number : (o : Setting) (events : List Event) (n : ℕ) (h : Hart) → IsSetting o → IsLegalIn o events → slice_get (state_after o events).harts n ≡ Some h → h.number ≡ n
   pub place : (o : Setting) (events : List Event) (n : ℕ) (h : Hart) → IsSetting o → IsLegalIn o events → slice_get (state_after o events).harts n ≡ Some h → h.live ≡ true → IsPlaced o h
   pub on : (o : Setting) (events : List Event) (n : ℕ) (h : Hart) → IsSetting o → IsLegalIn o events → slice_get (state_after o events).harts n ≡ Some h → h.live ≡ true → IsOn (state_after o events).newest (state_after o events).older h.layout

@@ -6,6 +6,7 @@ use Rattle.sh_types.specs.declared.runs.Stored.{Stored}
 use Rattle.sh_machines.specs.Copy.{copied}
 use Rattle.sh_machines.specs.Event.{instructions, can_run, can_all, state_after, IsLegalIn}
 use Rattle.sh_types.specs.Fetch.{InCopy, word_in}
+use Rattle.sh_types.specs.Limits.{most_harts}
 use Rattle.sh_machines.specs.Kind.{Restores, tables_of}
 use Rattle.sh_machines.specs.Need.{Outcome, Goes, Puts, Calls, Quits, Traps, Leaks}
 use Rattle.rv_table.specs.Operands.{plus_imm}
@@ -50,7 +51,7 @@ OutContinues h Leaks = Unit {0}
 -- the hart can be run from the copy of its layout
 pub record IsHere (c : Code) (p : Prepared) (n : ℕ) (s : Shuffled) (h : Hart) : Type 0 where
   pub number : h.number ≡ n
-  pub small : n < 64
+  pub small : n < most_harts
   pub live : h.live ≡ true
   pub made : IsMade c.origin h.layout p
   pub pc : h.pc < 2 ^ 63
@@ -61,7 +62,7 @@ pub record IsHere (c : Code) (p : Prepared) (n : ℕ) (s : Shuffled) (h : Hart) 
 
 -- and so can the one with this number
 pub record IsNext (c : Code) (p : Prepared) (s : Shuffled) (n : ℕ) : Type 0 where
-  pub few : length s.harts ≤ 64
+  pub few : length s.harts ≤ most_harts
   pub hart : Hart
   pub is : slice_get s.harts n ≡ Some hart
   pub here : IsHere c p n s hart

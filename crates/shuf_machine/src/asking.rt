@@ -1,5 +1,6 @@
 //! What an environment call asks of the machine.
 ghost use Rattle.std.specs.Prelude.{◌≡◌, ◌+◌, ◌<◌, ◌≤◌, ◌^◌, ◌++◌, true, Some, [], drop, length, slice_get, IfOk, OnOk, OnErr};
+ghost use Rattle.sh_types.specs.Limits.{most_harts};
 ghost use Rattle.guest_mem.specs.Held.{plain_of, regions_of};
 ghost use Rattle.hart_step.specs.Fits.{Rises};
 ghost use Rattle.shuf_machine.specs.Calling.{answer_by, answer_for, call_at, lives_of, more_of, seen_of, with_output};
@@ -70,7 +71,7 @@ struct Guest<'a> {
     output: Vec<u8>,
     taken: Option<Taken>,
     begun: Option<Begun>,
-    ghost few: { length harts.now ≤ 64 },
+    ghost few: { length harts.now ≤ most_harts },
     ghost rises: { Rises rows.now },
 }
 
@@ -171,7 +172,7 @@ pub fn unread(code: &Code, read: usize) -> &[u8]
 pub fn ask(code: &Code, state: &mut State, hart: &Hart) -> Result<Answer, NoMemory>
     requires code { IsCode code.now }
     requires mapped { IsMapped code.now.image state.old.memory }
-    requires few { length state.old.harts.items ≤ 64 }
+    requires few { length state.old.harts.items ≤ most_harts }
     requires live { slice_get (lives_of state.old.harts.items) hart.now.number ≡ Some true }
     ensures answer { IfOk result (λ a. a ≡ answer_for (call_at (setting_of code.now.origin) (meant code.now state.old) hart.now)) }
     ensures meant { OnOk result (meant code.now state.new ≡ with_output (meant code.now state.old) ((meant code.now state.old).output ++ more_of (call_at (setting_of code.now.origin) (meant code.now state.old) hart.now))) }

@@ -1,6 +1,7 @@
 //! Calls of the environment (RISC-V Unprivileged ISA, "Environment Call and Breakpoints"): the number is in a7, the
 //! arguments are in a0 to a3, and the answer goes to a0.
 ghost use Rattle.std.specs.Prelude.{◌≡◌, ℕ, ◌+◌, ◌-◌, ◌<◌, ◌≤◌, ◌^◌, ◌++◌, [], ◌∷◌, Some, None, true, length, take, OnOk, OnErr, slice_get, slice_set, vec_len, vec_capacity};
+ghost use Rattle.sh_types.specs.Limits.{most_harts};
 ghost use Rattle.guest_mem.specs.Held.{regions_of};
 ghost use Rattle.sh_machines.specs.Event.{can_run};
 ghost use Rattle.sh_machines.specs.Need.{Calls, stored_at};
@@ -15,8 +16,9 @@ use crate::asking::{Answer, ask, unread};
 use crate::finishing::{end_hart, pair_at, stop};
 use crate::going::{current, laws, prepared_on};
 use crate::reservations::lose;
-use crate::state::{Code, HARTS, Prepared, State};
+use crate::state::{Code, Prepared, State};
 use crate::transfers::fill;
+use sh_types::limits::MOST_HARTS;
 use sh_types::{End, Hart, NoMemory, Pair, Stored};
 
 /// The registers of a hart that is started.
@@ -85,7 +87,7 @@ fn start(
     requires at { at < vec_len state.old.harts }
     requires end { state.old.end ≡ None }
     requires low { hart.pc < 2 ^ 63 }
-    requires room { vec_len state.old.harts < 64 → vec_len state.old.harts < vec_capacity state.old.harts }
+    requires room { vec_len state.old.harts < most_harts → vec_len state.old.harts < vec_capacity state.old.harts }
     ensures meant { (argument stack thread : ℕ) → regs ≡ start_regs_of argument stack thread → meant code.now state.new ≡ acted (setting_of code.now.origin) at hart (Answer.Starts func argument stack thread) (meant code.now state.old) }
     ensures regions { regions_of state.new.memory ≡ regions_of state.old.memory }
 {
@@ -109,13 +111,13 @@ fn act(code: &Code, from: &Prepared, state: &mut State, at: u32, hart: Hart, ans
     requires code { IsCode code.now }
     requires mapped { IsMapped code.now.image state.old.memory }
     requires made { IsMade code.now.origin hart.layout from.now }
-    requires number { hart.number < 64 }
+    requires number { hart.number < most_harts }
     requires can { CanAct (setting_of code.now.origin) (meant code.now state.old) answer }
     requires count { state.old.count < 2 ^ 64 - 1 }
     requires at { at < vec_len state.old.harts }
     requires end { state.old.end ≡ None }
     requires low { hart.pc < 2 ^ 63 }
-    requires room { vec_len state.old.harts < 64 → vec_len state.old.harts < vec_capacity state.old.harts }
+    requires room { vec_len state.old.harts < most_harts → vec_len state.old.harts < vec_capacity state.old.harts }
     ensures meant { meant code.now state.new ≡ acted (setting_of code.now.origin) at hart answer (meant code.now state.old) }
     ensures regions { regions_of state.new.memory ≡ regions_of state.old.memory }
 {
@@ -143,9 +145,9 @@ fn act(code: &Code, from: &Prepared, state: &mut State, at: u32, hart: Hart, ans
 /// Room for a further hart, where there may be one.
 fn make_room(harts: &mut Vec<Hart>) -> Result<(), NoMemory>
     ensures items { harts.new.items ≡ harts.old.items }
-    ensures room { OnOk result (vec_len harts.new < 64 → vec_len harts.new < vec_capacity harts.new) }
+    ensures room { OnOk result (vec_len harts.new < most_harts → vec_len harts.new < vec_capacity harts.new) }
 {
-    if harts.len() < HARTS {
+    if harts.len() < MOST_HARTS as usize {
         harts.reserve(1)?;
     }
     Ok(())

@@ -4,6 +4,7 @@ ghost use Rattle.guest_mem.specs.Held.{regions_of};
 ghost use Rattle.sh_machines.specs.Event.{can_run};
 ghost use Rattle.sh_machines.specs.Need.{Quits, Traps, Leaks};
 ghost use Rattle.sh_types.specs.Place.{whose_of, pair_or_first};
+ghost use Rattle.sh_types.specs.Limits.{most_harts};
 ghost use Rattle.sh_machines.specs.Shuffled.{any_live as any_live_of, first_code as first_code_of, hart_ends, stopped};
 ghost use Rattle.shuf_machine.specs.Meant.{meant, IsCode, IsMapped};
 ghost use Rattle.shuf_machine.specs.Next.{IsNext, IsStopped, next_outcome};
@@ -59,7 +60,7 @@ pub fn stop(code: &Code, state: &mut State, end: End)
 pub fn end_hart(code: &Code, state: &mut State, at: u32, hart: Hart, exit: u8)
     requires count { state.old.count < 2 ^ 64 - 1 }
     requires at { at < vec_len state.old.harts }
-    requires number { hart.number < 64 }
+    requires number { hart.number < most_harts }
     requires end { state.old.end ≡ None }
     ensures meant { meant code.now state.new ≡ hart_ends (meant code.now state.old) at hart exit }
     ensures regions { regions_of state.new.memory ≡ regions_of state.old.memory }

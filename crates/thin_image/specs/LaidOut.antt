@@ -1,9 +1,10 @@
 -- What the code needs to know of functions that rise.
 use Rattle.std.specs.Prelude.{◌≡◌, ◌<◌, ◌≤◌, ℕ, ◌+◌, ◌*◌, ◌^◌, List, [], length, slice_index, slice_index_or}
+use Rattle.sh_types.specs.Limits.{most_functions}
 
 -- a few starts, each above the one before
 pub record IsRising (starts : List ℕ) : Type 0 where
-  pub few : length starts ≤ 16384
+  pub few : length starts ≤ most_functions
   pub rise : (i j : ℕ) → i < j → j < length starts → slice_index starts i < slice_index starts j
 
 -- a list of words for each start, at low addresses

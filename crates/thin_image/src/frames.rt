@@ -6,18 +6,16 @@ ghost use Rattle.elf_rules.specs.Thin as thin;
 use crate::words::{is_jal, is_jalr, moves_sp};
 use rv_decode::decode;
 use rv_table::Instr;
+use sh_types::limits::MOST_DEPTH;
 use sh_types::{FrameState, FrameTable, Items, RaPlace};
 use std::alloc::{AllocError, Global};
-
-/// No frame is deeper, in bytes.
-const DEEPEST: i128 = 1 << 20;
 
 /// The depth after sp has moved by `by`, or 0 where that is no depth of a frame.
 fn moved_depth(depth: u32, by: i64) -> u32
     ensures { result ≡ thin.small_depth (pos depth -ℤ by) }
 {
     let moved = i128::from(depth) - i128::from(by);
-    if 0 <= moved && moved <= DEEPEST {
+    if 0 <= moved && moved <= i128::from(MOST_DEPTH) {
         moved as u32
     } else {
         0
