@@ -20,6 +20,7 @@ use Rattle.sh_machines.specs.Frame.{IsState, Follows}
 use Rattle.sh_types.specs.Image.{sizes_of, starts_of, no_rows, row_in, row_at, site_at, word_at, first_stack, stack_start, stack_end}
 use Rattle.sh_machines.specs.Kind.{Past, word_kind, kind_at}
 use Rattle.sh_types.specs.Place.{pair, IsPair}
+use Rattle.sh_machines.specs.Tokens.{AreInOrder}
 use Rattle.elf_rules.specs.Thin.{is_plain_word, are_entry_words, are_plain_words, is_thin_function, word_site, sites_from, states_from, word_behind, entered, entry_home, is_thin, classified, thin_image}
 use Rattle.sh_machines.specs.Unmoved.{next_of}
 use Rattle.thin_law.proofs.Words.{addi_signed, IsEntryWord, entry_word, IsOtherWord, other_word}
@@ -90,6 +91,27 @@ none_at k f e = cc
 -- where there is no row, what is to be true of each is
 no_row : (rows : List ℕ) (k f : ℕ) {P : Type 0} → rows ≡ [] → slice_get rows k ≡ Some f → P
 no_row rows k f e t = absurd (none_at k f (subst (λ rows. slice_get rows k ≡ Some f) e t))
+
+-- and so of labels
+no_label : (labels : List Pair) (j : ℕ) (q : Pair) {P : Type 0} → labels ≡ [] → slice_get labels j ≡ Some q → P
+no_label labels j q e t = absurd (gone j (subst (λ labels. slice_get labels j ≡ Some q) e t))
+  where
+    gone : (j : ℕ) → slice_get [] j ≡ Some q → ⊥
+    gone zero t = cc
+    gone (suc j) t = cc
+
+-- tables without rows and labels are in order
+in_order : (sizes rows : List ℕ) (labels : List Pair) → rows ≡ [] → labels ≡ [] → AreInOrder sizes rows labels
+in_order sizes rows labels e f =
+    record {
+      rows_rise = λ i j l m. absurd (few_rows j (subst (λ rows. j < length rows) e m));
+      labels_rise = λ i j p q l g h. no_label labels j q f h;
+      pairs = λ j p g. no_label labels j p f g;
+      inside = λ j p g. no_label labels j p f g;
+    }
+  where
+    few_rows : (j : ℕ) → j < 0 → ⊥
+    few_rows j l = omega (arith, l)
 
 few_literals : (i : Image) → literals_below (classified i) (length (sizes_of (classified i))) ≤ 2 ^ 20
 few_literals i = let few = (copyable i).literals in rw (length-sizes (classified i)) (omega (arith, few))
@@ -217,6 +239,7 @@ module _ (image : Image) (starts : List ℕ) (entry : ℕ) (thin : IsThinImage i
         low = λ k r e. low_at image.regions k r thin.regions e;
         frames = record { first = first; inside = inside; states = state; follows = follows };
         rows = λ k f e. no_row image.rows k f thin.none_taken e;
+        ordered = in_order (sizes_of image) image.rows image.labels thin.none_taken thin.none_named;
         literals = few;
         sites = λ p row e l. (inner_fits p row e l).site;
       }
@@ -237,6 +260,10 @@ none_loaded : (b : List ℕ) → (loaded_image b).rows ≡ []
 unfolding loaded_image
 none_loaded b = refl
 
+none_labelled : (b : List ℕ) → (loaded_image b).labels ≡ []
+unfolding loaded_image
+none_labelled b = refl
+
 pub thin_fine : ((b : List ℕ) → Accepts b → IsCoded (loaded_image b)) → (b : List ℕ) (image : Image) → thin_image b ≡ Some image → IsFine image
 unfolding thin_image
 thin_fine coded b image e = by (is_accepted b) (is_thin (loaded_image b)) refl refl e
@@ -245,6 +272,6 @@ thin_fine coded b image e = by (is_accepted b) (is_thin (loaded_image b)) refl r
     by true true a t e =
         subst IsFine (same_image (classified (loaded_image b)) image e)
         (is_fine (classified (loaded_image b)) (starts_of (loaded_image b).functions) (entry_home (loaded_image b))
-        (thin_code (loaded_image b) (coded b (accepts b a)) (none_loaded b) t) (few_literals (loaded_image b)))
+        (thin_code (loaded_image b) (coded b (accepts b a)) (none_loaded b) (none_labelled b) t) (few_literals (loaded_image b)))
     by true false a t e = absurd (cc)
     by false t a q e = absurd (cc)

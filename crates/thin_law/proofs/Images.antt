@@ -30,6 +30,8 @@ pub record IsThinImage (image : Image) (starts : List ℕ) (entry : ℕ) : Type 
   pub regions : image.regions ≡ first_stack ∷ []
   -- no function's address is taken
   pub none_taken : image.rows ≡ []
+  -- nor that of a word inside one
+  pub none_named : image.labels ≡ []
 
 -- ---- the number of a function
 
@@ -99,7 +101,7 @@ thin_parts i t =
     let parts = and_parts (length i.regions == 1) (are_thin_functions (starts_of i.functions) (entry_home i) i.words) t in
     record { regions = eqb-true (length i.regions) 1 parts.0; thin = parts.1 }
 
-module _ (i : Image) (code : IsCoded i) (none_taken : i.rows ≡ []) (test : IsThin i) where
+module _ (i : Image) (code : IsCoded i) (none_taken : i.rows ≡ []) (none_named : i.labels ≡ []) (test : IsThin i) where
   many_starts : length (starts_of i.functions) ≡ length i.functions
   many_starts = length-map i.functions (λ (f : Function). f.home)
 
@@ -165,7 +167,8 @@ module _ (i : Image) (code : IsCoded i) (none_taken : i.rows ≡ []) (test : IsT
         whole = λ f. ap (λ sizes. slice_index sizes f % 4) same_sizes ∙ code.whole f;
         regions = code.stack test.regions;
         none_taken = none_taken;
+        none_named = none_named;
       }
 
-pub thin_code : (i : Image) → IsCoded i → i.rows ≡ [] → is_thin i ≡ true → IsThinImage (classified i) (starts_of i.functions) (entry_home i)
-thin_code i code none t = is_thin_image i code none (thin_parts i t)
+pub thin_code : (i : Image) → IsCoded i → i.rows ≡ [] → i.labels ≡ [] → is_thin i ≡ true → IsThinImage (classified i) (starts_of i.functions) (entry_home i)
+thin_code i code none named t = is_thin_image i code none named (thin_parts i t)
