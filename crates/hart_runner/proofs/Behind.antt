@@ -115,7 +115,7 @@ event_behind : (o : Setting) (fi : IsSetting o) (period : ℕ) (e : Event) (s : 
 event_behind o fi period (Run n k) s u b g q c p a =
     record {
       off = λ m i.
-          subst (λ x. Off x (instructions o n k s).harts m) (sym (all_same o n k s).newest) (run_off o k s s.newest n m (not_among m n b.behind i (not_true _ (and_first _ _ p))) (a.off m i));
+          subst (λ x. Off x (instructions o n k s).harts m) (sym (all_same o n k s).newest) (run_off o k s s.newest n m (not_among m n b.behind i (not_true _ (and_first _ _ (and_second (is_alive (slice_get b.guest.threads n)) _ p)))) (a.off m i));
       rises = a.rises;
     }
 event_behind o fi period (Migrate n) s u b g q c p a = at (slice_get s.harts n)
