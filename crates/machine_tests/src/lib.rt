@@ -1,8 +1,6 @@
-//! Tests of the parts of the machine: layouts, copies, the cipher of return words and the calls of the environment.
+//! Tests of the parts of the machine: layouts, copies and the cipher of return words.
 #![tactic(auto)]
 
-#[cfg(test)]
-mod calls;
 #[cfg(test)]
 mod ciphers;
 pub mod copies;
