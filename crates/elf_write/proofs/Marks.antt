@@ -24,11 +24,13 @@ low_marks : (object : Object) → IsWritable object → All (λ (m : Mark). m.at
 low_marks object w =
     All-weaker (IsMark object) (λ (m : Mark). m.at < 67108864) (low_mark object w) object.marks w.marks
 
+pub few_filtered : (object : Object) → IsWritable object → (in_text : Bool) → length (filter (is_in in_text) object.marks) < 2 ^ 32
+few_filtered object w in_text =
+    omega (arith, w.few, length-filter (is_in in_text) object.marks, count_by-le-length (is_in in_text) object.marks)
+
 pub few_marks : (object : Object) → IsWritable object → (in_text : Bool) → length (marks_in in_text object.marks) < 2 ^ 32
 unfolding marks_in
-few_marks object w in_text =
-    let few : length (filter (is_in in_text) object.marks) ≤ length object.marks = omega (arith, length-filter (is_in in_text) object.marks, count_by-le-length (is_in in_text) object.marks) in
-    omega (arith, w.few, length_by_place (filter (is_in in_text) object.marks))
+few_marks object w in_text = omega (arith, few_filtered object w in_text, length_by_place (filter (is_in in_text) object.marks))
 
 -- the address of each mark of a part, behind a low one, is a number of eight bytes
 pub placed_marks : (object : Object) → IsWritable object → (in_text : Bool) (home : ℕ) → home < 2 ^ 61 → All (λ (m : Mark). home + m.at < 2 ^ 64) (marks_in in_text object.marks)

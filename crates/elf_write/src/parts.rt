@@ -113,7 +113,7 @@ fn loaded_parts(object: &Object) -> (Part, Part)
 }
 
 /// The bytes of .rela.text, or of .rela.data.
-#[tactic(auto, using(crate::proofs::Marks::few_marks, crate::proofs::Sorting::length_by_place), unfolding(crate::specs::Parts::marks_in))]
+#[tactic(auto, using(crate::proofs::Sorting::length_by_place), unfolding(crate::specs::Parts::marks_in))]
 fn records_size(in_text: bool, object: &Object) -> u64
     requires { IsWritable object.now }
     ensures value { result ≡ 24 * length (part.marks_in in_text object.now.marks) }

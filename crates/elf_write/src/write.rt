@@ -36,7 +36,7 @@ fn put_memory(file: &mut Vec<u8>, object: &Object, parts: &Parts) -> Result<(), 
 }
 
 /// Appends the records.
-#[tactic(auto, using(crate::proofs::Marks::placed_marks), unfolding(crate::specs::Written::placed))]
+#[tactic(auto, unfolding(crate::specs::Written::placed))]
 fn put_marks(
     alloc: Global,
     file: &mut Vec<u8>,
