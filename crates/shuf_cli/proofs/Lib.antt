@@ -5,3 +5,4 @@ pub mod Dues
 pub mod Each
 pub mod Loading
 pub mod Readable
+pub mod Running
