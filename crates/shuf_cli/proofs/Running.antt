@@ -29,7 +29,7 @@ not_run m file input seed built empty new same low due e =
     let f : m.origin.file ≡ file = ap (λ (p : Past). p.origin.file) new in
     let i : m.origin.input ≡ [] = ap (λ (p : Past). p.origin.input) new ∙ empty in
     let at_file : is_built default_period (image_of m.origin.file) m.origin.input ≡ is_built default_period (image_of file) m.origin.input
-          = ap (λ (x : List ℕ). is_built default_period (image_of x) m.origin.input) f in
+    = ap (λ (x : List ℕ). is_built default_period (image_of x) m.origin.input) f in
     let at_input : is_built default_period (image_of file) m.origin.input ≡ is_built default_period (image_of file) []
-          = ap (λ (x : List ℕ). is_built default_period (image_of file) x) i in
+    = ap (λ (x : List ℕ). is_built default_period (image_of file) x) i in
     e ∙ by_answer file seed (sym (same ∙ at_file ∙ at_input) ∙ low)
