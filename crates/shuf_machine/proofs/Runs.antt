@@ -11,16 +11,17 @@ use Rattle.sh_machines.specs.Serial.{run_length}
 use Rattle.sh_machines.specs.Shuffled.{Setting, Shuffled}
 use Rattle.sh_machines.specs.Unmoved.{goes_still, unmoved_run}
 use Rattle.sh_law.specs.Length.{IsWhole}
+use Rattle.hart_turns.specs.declared.state.State.{State}
+use Rattle.hart_turns.specs.Meant.{IsMapped}
+use Rattle.hart_turns.specs.Next.{IsReached}
+use Rattle.hart_turns.specs.Ran.{IsRun}
+use Rattle.hart_turns.proofs.Steps.{run_allowed}
 use Rattle.shuf_machine.specs.declared.answers.No.TheVariants.{NoHart}
-use Rattle.shuf_machine.specs.declared.state.Code.{Code}
-use Rattle.shuf_machine.specs.declared.state.State.{State}
-use Rattle.shuf_machine.specs.Meant.{meant, IsMapped, IsMachine}
-use Rattle.shuf_machine.specs.Next.{IsReached}
-use Rattle.shuf_machine.specs.Ran.{IsRun}
+use Rattle.shuf_machine.specs.declared.code.Code.{Code}
+use Rattle.shuf_machine.specs.Meant.{meant, IsMachine}
 use Rattle.shuf_machine.specs.Refusal.{unless_ended, live_no, run_no}
-use Rattle.shuf_machine.specs.Run.{image_of, setting_of, shuffled_run}
+use Rattle.shuf_machine.specs.Run.{setting_of, shuffled_run}
 use Rattle.shuf_machine.proofs.Journal.{machine_more}
-use Rattle.shuf_machine.proofs.Steps.{run_allowed}
 
 -- ---- where there is no reason against it the hart can run
 
@@ -41,7 +42,7 @@ can_run_on s n h = run_by n s.end (slice_get s.harts n) h
 
 -- ---- the machine and its journal
 
-pub reached_by : (c : Code) (s : State) (j : List Event) → IsMachine c s j → IsReached (setting_of c.origin) (meant c s)
+pub reached_by : (c : Code) (s : State) (j : List Event) → IsMachine c s j → IsReached (setting_of c.image c.origin) (meant c s)
 reached_by c s j m = record { events = j; legal = m.legal; state = m.state }
 
 -- nothing has changed
@@ -49,24 +50,24 @@ pub machine_same : (c : Code) (s s' : State) (j j' : List Event) → IsMachine c
 machine_same c s s' j j' m e mapped ej =
     subst (IsMachine c s') (sym ej) (record { code = m.code; mapped = mapped; legal = m.legal; state = e ∙ m.state })
 
-pub run_is_allowed : (c : Code) (s : State) (s' : Shuffled) (j : List Event) (n limit k : ℕ) → IsMachine c s j → IsRun (setting_of c.origin) n limit k (meant c s) s' → Allowed (setting_of c.origin) (Run n k) (shuffled_run c.origin j)
+pub run_is_allowed : (c : Code) (s : State) (s' : Shuffled) (j : List Event) (n limit k : ℕ) → IsMachine c s j → IsRun (setting_of c.image c.origin) n limit k (meant c s) s' → Allowed (setting_of c.image c.origin) (Run n k) (shuffled_run c.image c.origin j)
 run_is_allowed c s s' j n limit k m r =
-    let o = setting_of c.origin in
-    run_allowed o n k (shuffled_run c.origin j) r.whole.some (subst (λ x. can_all o n k x ≡ true) m.state r.whole.all)
+    let o = setting_of c.image c.origin in
+    run_allowed o n k (shuffled_run c.image c.origin j) r.whole.some (subst (λ x. can_all o n k x ≡ true) m.state r.whole.all)
 
-pub machine_ran : (c : Code) (s s' : State) (j j' : List Event) (n limit k : ℕ) → IsMachine c s j → IsRun (setting_of c.origin) n limit k (meant c s) (meant c s') → IsMapped c.image s'.memory → j' ≡ j ++ Run n k ∷ [] → IsMachine c s' j'
+pub machine_ran : (c : Code) (s s' : State) (j j' : List Event) (n limit k : ℕ) → IsMachine c s j → IsRun (setting_of c.image c.origin) n limit k (meant c s) (meant c s') → IsMapped c.image s'.memory → j' ≡ j ++ Run n k ∷ [] → IsMachine c s' j'
 machine_ran c s s' j j' n limit k m r mapped e =
-    machine_more c c s s' j j' (Run n k) m refl m.code mapped (run_is_allowed c s (meant c s') j n limit k m r) r.state e
+    machine_more c c s s' j j' (Run n k) m refl refl m.code mapped (run_is_allowed c s (meant c s') j n limit k m r) r.state e
 
-pub run_between : (c : Code) (s s' : State) (j j' : List Event) (n limit k : ℕ) → IsMachine c s j → IsMachine c s' j' → IsRun (setting_of c.origin) n limit k (meant c s) (meant c s') → IsRun (setting_of c.origin) n limit k (shuffled_run c.origin j) (shuffled_run c.origin j')
+pub run_between : (c : Code) (s s' : State) (j j' : List Event) (n limit k : ℕ) → IsMachine c s j → IsMachine c s' j' → IsRun (setting_of c.image c.origin) n limit k (meant c s) (meant c s') → IsRun (setting_of c.image c.origin) n limit k (shuffled_run c.image c.origin j) (shuffled_run c.image c.origin j')
 run_between c s s' j j' n limit k m m' r =
-    subst (λ x. IsRun (setting_of c.origin) n limit k x (shuffled_run c.origin j')) m.state (subst (IsRun (setting_of c.origin) n limit k (meant c s)) m'.state r)
+    subst (λ x. IsRun (setting_of c.image c.origin) n limit k x (shuffled_run c.image c.origin j')) m.state (subst (IsRun (setting_of c.image c.origin) n limit k (meant c s)) m'.state r)
 
 -- how long the law says that an event is
 abbrev pub LengthLaw : Type 0
 LengthLaw = (o : Setting) (events : List Event) (n limit k : ℕ) → IsSetting o → IsLegalIn o events → IsWhole o n limit k (state_after o events) → k ≡ run_length o.image n limit (unmoved_run o.image o.input (written events))
 
 -- as many instructions as the unmoved machine says
-pub length_is : LengthLaw → (c : Code) (s : State) (s' : Shuffled) (j : List Event) (n limit k : ℕ) → IsMachine c s j → IsRun (setting_of c.origin) n limit k (meant c s) s' → k ≡ run_length (image_of c.origin.file) n limit (unmoved_run (image_of c.origin.file) c.origin.input (written j))
+pub length_is : LengthLaw → (c : Code) (s : State) (s' : Shuffled) (j : List Event) (n limit k : ℕ) → IsMachine c s j → IsRun (setting_of c.image c.origin) n limit k (meant c s) s' → k ≡ run_length c.image n limit (unmoved_run c.image c.origin.input (written j))
 length_is law c s s' j n limit k m r =
-    law (setting_of c.origin) j n limit k m.code.setting m.legal (subst (IsWhole (setting_of c.origin) n limit k) m.state r.whole)
+    law (setting_of c.image c.origin) j n limit k m.code.setting m.legal (subst (IsWhole (setting_of c.image c.origin) n limit k) m.state r.whole)

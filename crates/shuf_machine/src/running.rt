@@ -4,14 +4,15 @@ ghost use Rattle.sh_machines.specs.Event.{Allowed, written};
 ghost use Rattle.sh_types.specs.Fetch.{Tells};
 ghost use Rattle.sh_machines.specs.Serial.{run_length};
 ghost use Rattle.sh_machines.specs.Unmoved.{unmoved_run};
+ghost use Rattle.hart_turns.specs.Ran.{IsRun, asked_in};
 ghost use Rattle.shuf_machine.specs.Meant.{meant, IsMachine};
-ghost use Rattle.shuf_machine.specs.Ran.{IsRun, asked_in};
 ghost use Rattle.shuf_machine.specs.Refusal.{IsCause, run_no};
-ghost use Rattle.shuf_machine.specs.Run.{image_of, setting_of, shuffled_run};
+ghost use Rattle.shuf_machine.specs.Run.{setting_of, shuffled_run};
 
+use crate::admitting::admit;
 use crate::answers::{MachineNo, No};
-use crate::state::{Code, State};
-use crate::stepping::run_hart;
+use crate::code::Code;
+use hart_turns::{LiveCode, State, run_hart};
 use sh_law::runs_have_their_length;
 use sh_types::{Event, Fetch};
 
@@ -40,24 +41,28 @@ pub fn run<F: Fetch>(
 ) -> Result<u64, MachineNo>
     requires is { IsMachine code.now state.old journal.old.items }
     requires some { 1 ≤ limit }
-    requires count { (shuffled_run code.now.origin journal.old.items).count + limit < 2 ^ 64 }
+    requires count { (shuffled_run code.now.image code.now.origin journal.old.items).count + limit < 2 ^ 64 }
     ensures kept { IsMachine code.now state.new journal.new.items }
     ensures ok { IfOk result (λ n. journal.new.items ≡ journal.old.items ++ Event.Run at n ∷ []) }
-    ensures length { IfOk result (λ n. n ≡ run_length (image_of code.now.origin.file) at limit (unmoved_run (image_of code.now.origin.file) code.now.origin.input (written journal.old.items))) }
-    ensures run { IfOk result (λ n. IsRun (setting_of code.now.origin) at limit n (shuffled_run code.now.origin journal.old.items) (shuffled_run code.now.origin journal.new.items)) }
-    ensures allowed { IfOk result (λ n. Allowed (setting_of code.now.origin) (Event.Run at n) (shuffled_run code.now.origin journal.old.items)) }
+    ensures length { IfOk result (λ n. n ≡ run_length code.now.image at limit (unmoved_run code.now.image code.now.origin.input (written journal.old.items))) }
+    ensures run { IfOk result (λ n. IsRun (setting_of code.now.image code.now.origin) at limit n (shuffled_run code.now.image code.now.origin journal.old.items) (shuffled_run code.now.image code.now.origin journal.new.items)) }
+    ensures allowed { IfOk result (λ n. Allowed (setting_of code.now.image code.now.origin) (Event.Run at n) (shuffled_run code.now.image code.now.origin journal.old.items)) }
     ensures err { OnErr result (journal.new.items ≡ journal.old.items) }
-    ensures cause { IfErr result (λ e. IsCause e (run_no (shuffled_run code.now.origin journal.old.items) at)) }
-    ensures asked { IfOk result (λ n. Tells (F.asked fetch.old) (asked_in (setting_of code.now.origin) at limit n (shuffled_run code.now.origin journal.old.items)) (F.asked fetch.new)) }
+    ensures cause { IfErr result (λ e. IsCause e (run_no (shuffled_run code.now.image code.now.origin journal.old.items) at)) }
+    ensures asked { IfOk result (λ n. Tells (F.asked fetch.old) (asked_in (setting_of code.now.image code.now.origin) at limit n (shuffled_run code.now.image code.now.origin journal.old.items)) (F.asked fetch.new)) }
 {
-    if let Some(why) = refusal(code, state, at) {
-        return Err(MachineNo::NotEnabled { why });
-    }
-    if journal.reserve(1).is_err() {
-        return Err(MachineNo::NoMemory);
-    }
+    admit(journal, refusal(code, state, at))?;
     runs_have_their_length();
-    match run_hart(code, state, at, limit, fetch) {
+    let live = LiveCode {
+        image: &code.image,
+        input: &code.origin.input,
+        seed: &code.origin.seed,
+        epochs: &code.epochs,
+        newest: &code.newest,
+        older: &code.older,
+        wiped: code.wiped,
+    };
+    match run_hart(&live, state, at, limit, fetch) {
         Ok(count) => {
             journal.push_reserved(Event::Run { hart: at, count });
             Ok(count)

@@ -1,27 +1,23 @@
 use Rattle.std.proofs.Common.{List, [], ◌∷◌, ◌++◌, sym, ◌∙◌, ap}
 use Rattle.sh_types.specs.declared.runs.Event.{Event}
 use Rattle.sh_types.specs.declared.runs.Event.TheVariants.{Run}
-use Rattle.sh_machines.specs.Shuffled.{Shuffled}
 use Rattle.shuf_machine.specs.Meant.{meant}
-use Rattle.shuf_machine.specs.Refusal.{run_no}
 use Rattle.shuf_machine.proofs.Runs.{can_run_on, reached_by, machine_ran, run_is_allowed, run_between, length_is}
 use Rattle.shuf_machine.proofs.running.run.Goals as goal
 
-pub returns-in-Some-clause-cause : goal.returns-in-Some-clause-cause
-returns-in-Some-clause-cause g c = ap (λ (s : Shuffled). run_no s c.args.at) (sym c.requires.is.state) ∙ sym c.refusal.ensures ∙ c.in-Some.is
-
-pub returns-then-is_err-clause-cause : goal.returns-then-is_err-clause-cause
-returns-then-is_err-clause-cause g c = ap (λ (s : Shuffled). run_no s c.args.at) (sym c.requires.is.state) ∙ sym c.refusal.ensures ∙ c.in_default.is
+pub run_hart-requires-clause-code : goal.run_hart-requires-clause-code
+run_hart-requires-clause-code g c =
+    let ic = c.requires.is.code in record { runnable = ic.runnable; fits = ic.fits; setting = ic.setting; newest = ic.newest; older = ic.older }
 
 pub run_hart-requires-clause-reached : goal.run_hart-requires-clause-reached
 run_hart-requires-clause-reached g c = reached_by c.args.code.now c.args.state.now c.args.journal.now.items c.requires.is
 
 pub run_hart-requires-clause-can : goal.run_hart-requires-clause-can
-run_hart-requires-clause-can g c = can_run_on (meant c.args.code.now c.args.state.now) c.args.at (sym c.refusal.ensures ∙ c.in_default.is)
+run_hart-requires-clause-can g c = can_run_on (meant c.args.code.now c.args.state.now) c.args.at (sym c.refusal.ensures ∙ c.in_ok-admit.ensures.none)
 
 pub returns-in-Ok-clause-kept : goal.returns-in-Ok-clause-kept
 returns-in-Ok-clause-kept g c =
-    machine_ran c.args.code.now c.args.state.now c.run_hart.new.state c.args.journal.now.items c.push_reserved.new.self.items c.args.at c.args.limit c.in-Ok.count c.requires.is c.in-Ok.ensures.run c.run_hart.ensures.mapped (c.push_reserved.ensures.items ∙ ap (λ (l : List Event). l ++ Run c.args.at c.in-Ok.count ∷ []) c.reserve.ensures.items)
+    machine_ran c.args.code.now c.args.state.now c.run_hart.new.state c.args.journal.now.items c.push_reserved.new.self.items c.args.at c.args.limit c.in-Ok.count c.requires.is c.in-Ok.ensures.run c.run_hart.ensures.mapped (c.push_reserved.ensures.items ∙ ap (λ (l : List Event). l ++ Run c.args.at c.in-Ok.count ∷ []) c.admit.ensures.items)
 
 pub returns-in-Ok-clause-length : goal.returns-in-Ok-clause-length
 returns-in-Ok-clause-length g c =

@@ -8,4 +8,4 @@ use Rattle.shuf_machine.proofs.machine.Machine.count.Goals as goal
 pub returns-clause-run : goal.returns-clause-run
 returns-clause-run c =
     subst (λ (p : Past). c.self.inside.state.count ≡ length (written p.journal)) c.self.view_is
-    (ap (λ (s : Shuffled). s.count) c.self.invariant.state ∙ c.instructions_are_counted.ensures.count (setting_of c.self.inside.code.origin) c.self.inside.journal.items c.self.invariant.legal)
+    (ap (λ (s : Shuffled). s.count) c.self.invariant.state ∙ c.instructions_are_counted.ensures.count (setting_of c.self.inside.code.image c.self.inside.code.origin) c.self.inside.journal.items c.self.invariant.legal)

@@ -1,0 +1,10 @@
+pub mod Bytes
+pub mod Calling
+pub mod Copies
+pub mod Ending
+pub mod Keeping
+pub mod Legal
+pub mod Losing
+pub mod Next
+pub mod Reaching
+pub mod Steps

@@ -1,0 +1,5 @@
+pub mod Calling
+pub mod Laws
+pub mod Meant
+pub mod Next
+pub mod Ran

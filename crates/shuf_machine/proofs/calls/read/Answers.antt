@@ -1,7 +1,0 @@
-use Rattle.std.proofs.Common.{◌≡◌, length, drop, ap, arith}
-use Rattle.shuf_machine.proofs.calls.read.Goals as goal
-
-pub overflow_add-state : goal.overflow_add-state
-overflow_add-state c =
-    let n : length c.unread.result.now ≡ length (drop c.args.state.now.read c.args.code.now.origin.input) = ap length c.unread.ensures.rest in
-    omega (arith, c.requires.can.few, c.unread.ensures.fits, n)

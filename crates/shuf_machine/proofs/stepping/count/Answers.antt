@@ -1,6 +1,0 @@
-use Rattle.shuf_machine.specs.Meant.{meant}
-use Rattle.shuf_machine.proofs.Losing.{counted}
-use Rattle.shuf_machine.proofs.stepping.count.Goals as goal
-
-pub returns-else-watched-clause-meant : goal.returns-else-watched-clause-meant
-returns-else-watched-clause-meant c = counted (meant c.args.code.now c.args.state.now) c.args.at c.args.stored c.requires.end (c.requires.watched c.if-watched.false)
