@@ -93,7 +93,7 @@ clearing p e = subst (λ x. Still p (cleared_away (pace_of p)) p x) is (still_fi
 pub none_older : (p : Past) → (pace_of p).older ≡ false → p ≡ with_events p (cleared_away (pace_of p))
 none_older p e =
     let z : cleared_away (pace_of p) ≡ [] = ap (λ t. if t then migrations (pace_of p).behind ++ Erase ((pace_of p).newest - 1) ∷ [] else []) e in
-    ap (λ (j : List Event). record { origin = p.origin; journal = j }) (sym (append-nil p.journal) ∙ ap (λ x. p.journal ++ x) (sym z))
+    ap (λ (j : List Event). record { image = p.image; origin = p.origin; journal = j }) (sym (append-nil p.journal) ∙ ap (λ x. p.journal ++ x) (sym z))
 
 -- what is left when it is gone
 pub record Cleared (period : ℕ) (p q : Past) : Type 0 where

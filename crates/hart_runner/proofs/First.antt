@@ -27,8 +27,12 @@ use Rattle.hart_runner.proofs.Turns.{Turning, turning_first, turning_on, turned,
 abbrev pub AtFirst : ℕ → Past → Type 0
 AtFirst period p = IsFirst (image_in p) p.origin.input period (pace_of p)
 
-fresh : (p : Past) → p.journal ≡ [] → p ≡ opening p.origin
-fresh p e = ap (λ (j : List Event). record { origin = p.origin; journal = j }) e
+fresh : (p : Past) → p.journal ≡ [] → p ≡ opening p.image p.origin
+fresh p e = ap (λ (j : List Event). record { image = p.image; origin = p.origin; journal = j }) e
+
+-- whether the guest is run is a matter of the image and the input
+built_alike : (period : ℕ) (p q : Past) → q.image ≡ p.image → q.origin ≡ p.origin → is_built period (image_in q) q.origin.input ≡ is_built period (image_in p) p.origin.input
+built_alike period p q ei eo = ap (λ (i : Image). is_built period i q.origin.input) ei ∙ ap (λ (o : Origin). is_built period p.image o.input) eo
 
 -- nothing has happened
 pub first_start : (period : ℕ) (p : Past) → p.journal ≡ [] → AtFirst period p
@@ -85,9 +89,7 @@ taken_ended period p es q left t g = turned p q es 0 left t.turning (no_run left
 -- where it comes to another call the guest is not run
 pub taken_other : (period : ℕ) (p : Past) (es : List Event) (q : Past) (left : ℕ) → Taking period p es q left → 1 ≤ left → goes_still (pace_of q).guest.end ≡ true → comes_to_other (image_in q) (pace_of q).guest ≡ true → is_built period (image_in p) p.origin.input ≡ false
 taken_other period p es q left t some g c =
-    let o : q.origin ≡ p.origin = t.turning.still.origin in
-    let e : is_built period (image_in q) q.origin.input ≡ is_built period (image_in p) p.origin.input = ap (λ (x : Origin). is_built period (image_in (opening x)) x.input) o in
-    sym e ∙ t.first.built ∙ other_stops (image_in q) (period - (pace_of q).count) (pace_of q).guest (omega (arith, some, t.room)) g c
+    sym (built_alike period p q t.turning.still.image t.turning.still.origin) ∙ t.first.built ∙ other_stops (image_in q) (period - (pace_of q).count) (pace_of q).guest (omega (arith, some, t.room)) g c
 
 -- ---- one round before the first publication
 
@@ -145,7 +147,7 @@ pub record Led (s : Schedule) (p q q' : Past) : Type 0 where
 pub leading_on : (s : Schedule) (p q q' : Past) → Leading s p q → goes_still (pace_of q).guest.end ≡ true → (pace_of q).count < s.period → 1 ≤ s.quantum → s.period ≤ s.steps → q' ≡ with_events q (turn (image_in q) 0 (turn_limit s (pace_of q).count) (pace_of q)) → AtFirst s.period q' → Led s p q q'
 leading_on s p q q' v g l quantum steps e f =
     let b : Pace = pace_of q in
-    let same : q ≡ with_events q [] = ap (λ (j : List Event). record { origin = q.origin; journal = j }) (sym (append-nil q.journal)) in
+    let same : q ≡ with_events q [] = ap (λ (j : List Event). record { image = q.image; origin = q.origin; journal = j }) (sym (append-nil q.journal)) in
     let ready_none : q ≡ with_events q (ready s.period b) = same ∙ ap (with_events q) (sym (nothing_ready s.period b l v.first.behind)) in
     let going : is_done s b ≡ false = by (goes_still b.guest.end) g (omega (arith, l, steps)) in
     let r = serving_on p q q q' s (serial_from (image_in p) s (pace_of p)) v.low 0 (turn_limit s b.count) v.serving (omega (arith, l)) quantum going ready_none (sym (first_next v.low b.guest v.first.alone g)) refl (goes_alone b.guest v.first.alone g) e in
@@ -157,8 +159,7 @@ leading_on s p q q' v g l quantum steps e f =
 -- at the end: the run is over, or the first publication is due
 pub led_built : (s : Schedule) (p q : Past) → Leading s p q → (goes_still (pace_of q).guest.end ≡ false) ⊎ (s.period ≤ (pace_of q).count) → is_built s.period (image_in p) p.origin.input ≡ exits_or (pace_of q).guest.end false
 led_built s p q v w =
-    let e : is_built s.period (image_in q) q.origin.input ≡ is_built s.period (image_in p) p.origin.input = ap (λ (x : Origin). is_built s.period (image_in (opening x)) x.input) v.serving.still.origin in
-    sym e ∙ v.first.built ∙ by w
+    sym (built_alike s.period p q v.serving.still.image v.serving.still.origin) ∙ v.first.built ∙ by w
   where
     by : (goes_still (pace_of q).guest.end ≡ false) ⊎ (s.period ≤ (pace_of q).count) → exits_within (image_in q) (s.period - (pace_of q).count) (pace_of q).guest ≡ exits_or (pace_of q).guest.end false
     by (inl g) = ended_exits (image_in q) (s.period - (pace_of q).count) (pace_of q).guest g

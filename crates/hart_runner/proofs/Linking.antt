@@ -3,6 +3,7 @@ use Rattle.std.proofs.Common.{◌≡◌, ℕ, zero, suc, ◌+◌, ◌-◌, ◌==
 use Rattle.std.specs.Prelude.{if◌then◌else◌, cond, slice_get}
 use Rattle.std.specs.List.{position_from}
 use Rattle.std.proofs.lemmas.Bool.Decides.{nat_tests}
+use Rattle.sh_types.specs.declared.code.Image.{Image}
 use Rattle.sh_types.specs.declared.runs.Hart.{Hart}
 use Rattle.sh_machines.specs.Event.{is_off}
 use Rattle.sh_machines.specs.Fine.{IsSetting}
@@ -34,10 +35,10 @@ pub record Linked (s : Shuffled) (b : Pace) : Type 0 where
   pub behind : AreBehind s.newest s.harts b.behind
   pub on : AreOn s.newest b.behind s.harts
 
-pub linked : (p : Past) → IsSetting (setting_of p.origin) → IsLegal p.origin p.journal → StandsFor (setting_of p.origin) (state_of p) (guest_of p) → IsInPace p → Linked (state_of p) (pace_of p)
+pub linked : (p : Past) → IsSetting (setting_of p.image p.origin) → IsLegal p.image p.origin p.journal → StandsFor (setting_of p.image p.origin) (state_of p) (guest_of p) → IsInPace p → Linked (state_of p) (pace_of p)
 linked p set legal st pace =
-    let stands : StandsPaced (state_of p) (pace_of p) = paced_stands is_cipher (setting_of p.origin) set pace.period p.journal legal pace.paced in
-    let paces = journal_paces (setting_of p.origin) pace.period p.journal set legal pace.paced in
+    let stands : StandsPaced (state_of p) (pace_of p) = paced_stands is_cipher (setting_of p.image p.origin) set pace.period p.journal legal pace.paced in
+    let paces = journal_paces (setting_of p.image p.origin) pace.period p.journal set legal pace.paced in
     record {
       goes = λ g. st.end ∙ sym (ap (λ (u : Unmoved). u.end) (pace_guest (image_in p) p.origin.input p.journal)) ∙ none_of (pace_of p).guest.end g;
       newest = stands.newest;
@@ -47,9 +48,9 @@ linked p set legal st pace =
       on = stands.on;
     }
 
-pub layout_number : (o : Origin) (k : ℕ) → ((setting_of o).layout_at k).number ≡ k
+pub layout_number : (image : Image) (o : Origin) (k : ℕ) → ((setting_of image o).layout_at k).number ≡ k
 unfolding layout_of
-layout_number o k = refl
+layout_number image o k = refl
 
 -- ---- the least hart that is behind
 

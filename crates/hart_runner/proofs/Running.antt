@@ -31,10 +31,10 @@ pub record Begins (s : Schedule) (p : Past) : Type 0 where
   pub step : InStep s.period (pace_of p)
   pub few : (pace_of p).count ≤ s.steps
 
-pub begins : (s : Schedule) (p : Past) → IsSetting (setting_of p.origin) → IsLegal p.origin p.journal → KeepsPace s.period p → (state_of p).count ≤ s.steps → Begins s p
+pub begins : (s : Schedule) (p : Past) → IsSetting (setting_of p.image p.origin) → IsLegal p.image p.origin p.journal → KeepsPace s.period p → (state_of p).count ≤ s.steps → Begins s p
 begins s p set legal k f =
-    let stands : StandsPaced (state_of p) (pace_of p) = paced_stands is_cipher (setting_of p.origin) set s.period p.journal legal k in
-    record { step = (journal_paces (setting_of p.origin) s.period p.journal set legal k).step; few = omega (arith, stands.count, f) }
+    let stands : StandsPaced (state_of p) (pace_of p) = paced_stands is_cipher (setting_of p.image p.origin) set s.period p.journal legal k in
+    record { step = (journal_paces (setting_of p.image p.origin) s.period p.journal set legal k).step; few = omega (arith, stands.count, f) }
 
 pub record Running (s : Schedule) (p q : Past) (low : ℕ) : Type 0 where
   pub serving : Serving p s (all_of s p) q low
@@ -99,4 +99,5 @@ running_on s p q r q' low h m v l qq small d er eh em can eq =
 pub cut_paced : (s : Schedule) (p q : Past) → KeepsPace s.period p → 1 ≤ s.period → Begins s p → IsPart (all_of s p) p q → KeepsPace s.period q
 cut_paced s p q k l b w =
     let j : IsPaced (image_in p) p.origin.input s.period q.journal = serial_paced (image_in p) p.origin.input s p.journal q.journal w.rest k l b.step b.few w.still.is in
-    subst (λ o. KeepsPace s.period (record { origin = o; journal = q.journal })) (sym w.still.origin) j
+    subst (λ i. KeepsPace s.period (record { image = i; origin = q.origin; journal = q.journal })) (sym w.still.image)
+    (subst (λ o. KeepsPace s.period (record { image = p.image; origin = o; journal = q.journal })) (sym w.still.origin) j)

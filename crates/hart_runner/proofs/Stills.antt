@@ -1,5 +1,6 @@
 -- How what is still to come of a list of events shrinks.
 use Rattle.std.proofs.Common.{◌≡◌, List, [], ◌∷◌, ◌++◌, Result, Ok, Err, OnOk, OnErr, refl, sym, ap, ◌∙◌, subst, append_assoc, append-nil}
+use Rattle.sh_types.specs.declared.code.Image.{Image}
 use Rattle.sh_types.specs.declared.runs.Event.{Event}
 use Rattle.sh_machines.specs.Pace.{paced_on, followed}
 use Rattle.sh_law.proofs.Prefixes.{pace_more}
@@ -8,15 +9,17 @@ use Rattle.shuf_machine.specs.Past.{Past}
 use Rattle.hart_runner.specs.Standing.{image_in, pace_of, with_events, Still, IsPart}
 
 pub still_first : (p : Past) (es : List Event) → Still p es p es
-still_first p es = record { origin = refl; is = refl }
+still_first p es = record { image = refl; origin = refl; is = refl }
 
 pub still_on : (p q q' : Past) (es xs fs : List Event) → Still p es q (xs ++ fs) → q' ≡ with_events q xs → Still p es q' fs
-still_on p q q' es xs fs s e = subst (λ r. Still p es r fs) (sym e) (record { origin = s.origin; is = append_assoc q.journal xs fs ∙ s.is })
+still_on p q q' es xs fs s e = subst (λ r. Still p es r fs) (sym e) (record { image = s.image; origin = s.origin; is = append_assoc q.journal xs fs ∙ s.is })
 
 pub still_last : (p q : Past) (es : List Event) → Still p es q [] → q ≡ with_events p es
 still_last p q es s =
     let j : q.journal ≡ p.journal ++ es = sym (append-nil q.journal) ∙ s.is in
-    ap (λ (o : Origin). record { origin = o; journal = q.journal }) s.origin ∙ ap (λ l. record { origin = p.origin; journal = l }) j
+    ap (λ (i : Image). record { image = i; origin = q.origin; journal = q.journal }) s.image
+    ∙ ap (λ (o : Origin). record { image = p.image; origin = o; journal = q.journal }) s.origin
+    ∙ ap (λ l. record { image = p.image; origin = p.origin; journal = l }) j
 
 pub part_same : (p q q' : Past) (es fs : List Event) → Still p es q fs → q' ≡ q → IsPart es p q'
 part_same p q q' es fs s e = record { rest = fs; still = subst (λ r. Still p es r fs) (sym e) s }
@@ -26,6 +29,7 @@ part_within p q q' es xs fs s t =
     record {
       rest = t.rest ++ fs;
       still = record {
+        image = t.still.image ∙ s.image;
         origin = t.still.origin ∙ s.origin;
         is = sym (append_assoc q'.journal t.rest fs) ∙ ap (λ l. l ++ fs) t.still.is ∙ append_assoc q.journal xs fs ∙ s.is;
       };

@@ -4,20 +4,20 @@ use Rattle.sh_types.specs.declared.code.Image.{Image}
 use Rattle.sh_types.specs.declared.runs.Event.{Event}
 use Rattle.sh_machines.specs.Pace.{Pace, pace_after, IsPaced}
 use Rattle.shuf_machine.specs.Past.{Past}
-use Rattle.shuf_machine.specs.Run.{image_of}
 
 abbrev pub image_in : Past → Image
-image_in p = image_of p.origin.file
+image_in p = p.image
 
 abbrev pub pace_of : Past → Pace
 pace_of p = pace_after (image_in p) p.origin.input p.journal
 
 -- more events
 abbrev pub with_events : Past → List Event → Past
-with_events p es = record { origin = p.origin; journal = p.journal ++ es }
+with_events p es = record { image = p.image; origin = p.origin; journal = p.journal ++ es }
 
 -- of the events that were to come after p, these are still to come after q
 pub record Still (p : Past) (events : List Event) (q : Past) (rest : List Event) : Type 0 where
+  pub image : q.image ≡ p.image
   pub origin : q.origin ≡ p.origin
   pub is : q.journal ++ rest ≡ p.journal ++ events
 

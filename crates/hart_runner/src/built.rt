@@ -3,7 +3,6 @@ ghost use Rattle.std.specs.Prelude.{◌≡◌, ◌+◌, ◌<◌, ◌≤◌, ◌^
 ghost use Rattle.sh_machines.specs.Serial.{turn, serial_list};
 ghost use Rattle.sh_machines.specs.Unmoved.{goes_still};
 ghost use Rattle.shuf_machine.specs.Past.{guest_of};
-ghost use Rattle.shuf_machine.specs.Run.{image_of};
 ghost use Rattle.hart_runner.specs.Built.{is_built, exits_or};
 ghost use Rattle.hart_runner.specs.First.{IsFirst};
 ghost use Rattle.hart_runner.specs.Plans.{schedule_of};
@@ -19,6 +18,7 @@ fn take_first_turn(machine: &mut Machine, limit: u64, period: u64) -> Result<boo
     requires first { IsFirst (image_in machine.old) machine.old.origin.input period (pace_of machine.old) }
     requires room { (pace_of machine.old).count + limit ≤ period }
     requires small { period < 2 ^ 63 }
+    ensures image { IfOk result (λ on. machine.new.image ≡ machine.old.image) }
     ensures origin { IfOk result (λ on. machine.new.origin ≡ machine.old.origin) }
     ensures on { IfOk result (λ on. IsTrue on → machine.new ≡ with_events machine.old (turn (image_in machine.old) 0 limit (pace_of machine.old))) }
     ensures first { IfOk result (λ on. IsTrue on → IsFirst (image_in machine.new) machine.new.origin.input period (pace_of machine.new)) }
@@ -56,9 +56,10 @@ pub fn run_built(machine: &mut Machine, plan: &Plan) -> Result<bool, NoMemory>
     requires quantum { 1 ≤ plan.now.quantum }
     requires steps { plan.now.period ≤ plan.now.steps }
     requires small { plan.now.steps < 2 ^ 63 }
+    ensures image { IfOk result (λ built. machine.new.image ≡ machine.old.image) }
     ensures origin { IfOk result (λ built. machine.new.origin ≡ machine.old.origin) }
-    ensures built { IfOk result (λ built. built ≡ is_built plan.now.period (image_of machine.old.origin.file) machine.old.origin.input) }
-    ensures serial { IfOk result (λ built. IsTrue built → machine.new.journal ≡ serial_list (image_of machine.old.origin.file) machine.old.origin.input (schedule_of plan.now)) }
+    ensures built { IfOk result (λ built. built ≡ is_built plan.now.period (image_in machine.old) machine.old.origin.input) }
+    ensures serial { IfOk result (λ built. IsTrue built → machine.new.journal ≡ serial_list (image_in machine.old) machine.old.origin.input (schedule_of plan.now)) }
     ensures exit { IfOk result (λ built. IsTrue built → exits_or (guest_of machine.new).end false ≡ true) }
 {
     while is_going(machine, plan.period) {

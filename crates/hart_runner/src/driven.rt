@@ -54,7 +54,7 @@ pub fn count(machine: &Machine) -> u64
 #[tactic(auto, unfolding(layout_maker::specs::Layout::layout_of))]
 fn live_layout<'m>(machine: &'m Machine, number: u64) -> &'m Layout
     requires { IsOn (state_of machine.now).newest (state_of machine.now).older number }
-    ensures is { result.now ≡ (setting_of machine.now.origin).layout_at number }
+    ensures is { result.now ≡ (setting_of machine.now.image machine.now.origin).layout_at number }
     ensures placed { WellPlaced result.now }
 {
     machines_stand(machine);

@@ -1,6 +1,7 @@
 -- In a legal list of events the layouts that are published are numbered one after the other.
 use Rattle.std.proofs.Common.{◌≡◌, ℕ, List, [], ◌∷◌, Option, Some, None, refl, subst}
 use Rattle.std.specs.Prelude.{slice_get}
+use Rattle.sh_types.specs.declared.code.Image.{Image}
 use Rattle.sh_types.specs.declared.runs.Event.{Event}
 use Rattle.sh_types.specs.declared.runs.Event.TheVariants.{Run, Migrate, Publish, Erase}
 use Rattle.sh_types.specs.declared.runs.Hart.{Hart}
@@ -24,6 +25,6 @@ numbered o (Migrate n ∷ es) s l =
 numbered o (Publish k ∷ es) s l = (eq_of _ _ (and_second _ _ (and_second _ _ l.0)), numbered o es (after_event o (Publish k) s) l.1)
 numbered o (Erase k ∷ es) s l = (tt, numbered o es (after_event o (Erase k) s) l.1)
 
-pub journal_numbered : (o : Origin) (events : List Event) → IsLegal o events → IsNumbered 1 events
+pub journal_numbered : (image : Image) (o : Origin) (events : List Event) → IsLegal image o events → IsNumbered 1 events
 unfolding IsLegalIn
-journal_numbered o events l = numbered (setting_of o) events (shuffled_start (setting_of o)) l
+journal_numbered image o events l = numbered (setting_of image o) events (shuffled_start (setting_of image o)) l

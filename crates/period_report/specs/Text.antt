@@ -15,7 +15,7 @@ use Rattle.sh_types.specs.Image.{sizes_of}
 use Rattle.sh_machines.specs.Shuffled.{Shuffled}
 use Rattle.layout_maker.specs.Cell.{cell_of}
 use Rattle.shuf_machine.specs.declared.answers.Origin.{Origin}
-use Rattle.shuf_machine.specs.Run.{image_of, shuffled_run}
+use Rattle.shuf_machine.specs.Run.{shuffled_run}
 use Rattle.period_report.specs.declared.writer.Form.{Form}
 use Rattle.period_report.specs.declared.writer.Form.TheVariants.{Short}
 
@@ -108,6 +108,6 @@ tail_text s = count_lines (length s.harts) s.count ++ end_line s.end
 -- ---- the whole
 
 -- the head, the opening layout, the events, the tail
-unfoldable pub report_text : Form → Origin → ℕ → List Event → List ℕ
-report_text Short o period events =
-    run_lines o.seed period ++ line_of (image_of o.file) ++ layout_line 1 0 (cell_of o.seed 1) ++ events_text o.seed 0 events ++ tail_text (shuffled_run o events)
+unfoldable pub report_text : Form → Image → Origin → ℕ → List Event → List ℕ
+report_text Short image o period events =
+    run_lines o.seed period ++ line_of image ++ layout_line 1 0 (cell_of o.seed 1) ++ events_text o.seed 0 events ++ tail_text (shuffled_run image o events)

@@ -1,7 +1,6 @@
 //! The report on a run.
 ghost use Rattle.std.specs.Prelude.{◌≡◌, ◌<◌, ◌^◌, ◌++◌, IfOk, string_bytes};
 ghost use Rattle.shuf_machine.specs.Past.{state_of};
-ghost use Rattle.shuf_machine.specs.Run.{image_of};
 ghost use Rattle.layout_maker.specs.Cell.{cell_of};
 ghost use Rattle.period_report.specs.Kept.{IsKept};
 ghost use Rattle.period_report.specs.Numbered.{IsNext, IsNumbered, newest_after};
@@ -95,7 +94,7 @@ fn layouts(alloc: Global, machine: &Machine) -> Result<String, AllocError>
 
 /// The line on the image.
 fn image(alloc: Global, machine: &Machine) -> Result<String, AllocError>
-    ensures { IfOk result (λ text. string_bytes text ≡ line_of (image_of machine.now.origin.file)) }
+    ensures { IfOk result (λ text. string_bytes text ≡ line_of machine.now.image) }
 {
     machines_stand(machine);
     let image = machine.image();
@@ -116,7 +115,7 @@ fn tail(alloc: Global, machine: &Machine) -> Result<String, AllocError>
 /// The short report.
 #[tactic(auto, unfolding(crate::specs::Text::report_text))]
 fn short(alloc: Global, machine: &Machine, period: u64) -> Result<Bytes, NoMemory>
-    ensures { IfOk result (λ text. text ≡ report_text Form.Short machine.now.origin period machine.now.journal) }
+    ensures { IfOk result (λ text. text ≡ report_text Form.Short machine.now.image machine.now.origin period machine.now.journal) }
 {
     let mut text = lines::run(alloc, &machine.origin().seed, period)?;
     let image = image(alloc, machine)?;
@@ -131,7 +130,7 @@ fn short(alloc: Global, machine: &Machine, period: u64) -> Result<Bytes, NoMemor
 /// The report on what the machine has done, in this form: a text of lines that end by LF. `period` is the number of
 /// instructions between publications, which the report names. Err only where memory is refused.
 pub fn report(alloc: Global, machine: &Machine, period: u64, form: Form) -> Result<Bytes, NoMemory>
-    ensures { IfOk result (λ text. text ≡ report_text form machine.now.origin period machine.now.journal) }
+    ensures { IfOk result (λ text. text ≡ report_text form machine.now.image machine.now.origin period machine.now.journal) }
 {
     match form {
         Form::Short => short(alloc, machine, period),

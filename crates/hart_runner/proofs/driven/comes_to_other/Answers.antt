@@ -13,7 +13,7 @@ use Rattle.hart_runner.proofs.driven.comes_to_other.Goals as goal
 pub is_other-requires-clause-registers : goal.is_other-requires-clause-registers
 is_other-requires-clause-registers c =
     let m = c.args.machine.now in
-    let o = setting_of m.origin in
+    let o = setting_of m.image m.origin in
     let s = state_of m in
     let go : can_go (guest_of m) 0 ≡ true = ap (λ u. can_go u 0) (sym (pace_guest (image_in m) m.origin.input m.journal)) ∙ c.requires.can in
     let e : slice_get s.harts 0 ≡ Some c.in-Some.hart.now = sym c.hart.ensures ∙ ap option_copied c.in-Some.is in
@@ -22,7 +22,7 @@ is_other-requires-clause-registers c =
 pub live_layout-requires : goal.live_layout-requires
 live_layout-requires c =
     let m = c.args.machine.now in
-    let o = setting_of m.origin in
+    let o = setting_of m.image m.origin in
     let s = state_of m in
     let go : can_go (guest_of m) 0 ≡ true = ap (λ u. can_go u 0) (sym (pace_guest (image_in m) m.origin.input m.journal)) ∙ c.requires.can in
     let e : slice_get s.harts 0 ≡ Some c.in-Some.hart.now = sym c.hart.ensures ∙ ap option_copied c.in-Some.is in
@@ -31,7 +31,7 @@ live_layout-requires c =
 pub returns-in-Some : goal.returns-in-Some
 returns-in-Some c =
     let m = c.args.machine.now in
-    let o = setting_of m.origin in
+    let o = setting_of m.image m.origin in
     let s = state_of m in
     let i = image_in m in
     let h = c.in-Some.hart.now in
@@ -48,7 +48,7 @@ returns-in-Some c =
 pub returns-in-None : goal.returns-in-None
 returns-in-None c =
     let m = c.args.machine.now in
-    let o = setting_of m.origin in
+    let o = setting_of m.image m.origin in
     let s = state_of m in
     let go : can_go (guest_of m) 0 ≡ true = ap (λ u. can_go u 0) (sym (pace_guest (image_in m) m.origin.input m.journal)) ∙ c.requires.can in
     let e : slice_get s.harts 0 ≡ None = sym c.hart.ensures ∙ ap option_copied c.in-None.is in

@@ -15,14 +15,14 @@ run_direct-requires-clause-count c =
     let m = c.args.machine.now in
     let p = pace_count (image_in m) m.origin.input m.journal in
     let q = c.requires.count in
-    let a = c.instructions_are_counted.ensures.count (setting_of m.origin) m.journal c.machines_stand.ensures.legal in
+    let a = c.instructions_are_counted.ensures.count (setting_of m.image m.origin) m.journal c.machines_stand.ensures.legal in
     omega (arith, p, q, a)
 
 pub unreachable-requires : goal.unreachable-requires
 unreachable-requires c =
     let m = c.args.machine.now in
     let go : can_run (state_of m) c.args.hart ≡ true =
-    can_stands (setting_of m.origin) (state_of m) (guest_of m) c.args.hart c.machines_stand.ensures.stands
+    can_stands (setting_of m.image m.origin) (state_of m) (guest_of m) c.args.hart c.machines_stand.ensures.stands
     ∙ ap (λ u. can_go u c.args.hart) (sym (pace_guest (image_in m) m.origin.input m.journal)) ∙ c.requires.can in
     never_refused c.in-Err-NotEnabled.field-0 (run_no (state_of m) c.args.hart) c.in-Err-NotEnabled.field-0-0 c.in-Err-NotEnabled.ensures.cause (may_run (state_of m) c.args.hart go) c.in-Err-NotEnabled.field-0-is
 

@@ -12,5 +12,5 @@ use Rattle.hart_runner.proofs.harts.lives.Goals as goal
 pub returns : goal.returns
 returns c =
     let m = c.args.machine.now in
-    c.is_live.ensures ∙ ap is_live c.hart.ensures ∙ lives_stand (setting_of m.origin) (state_of m) (guest_of m) c.args.hart c.machines_stand.ensures.stands
+    c.is_live.ensures ∙ ap is_live c.hart.ensures ∙ lives_stand (setting_of m.image m.origin) (state_of m) (guest_of m) c.args.hart c.machines_stand.ensures.stands
     ∙ ap (λ (u : Unmoved). is_alive (slice_get u.threads c.args.hart)) (sym (pace_guest (image_in m) m.origin.input m.journal))

@@ -7,5 +7,5 @@ use Rattle.hart_runner.proofs.layouts.newest.Goals as goal
 pub returns : goal.returns
 returns c =
     let m = c.args.machine.now in
-    ap (λ (l : Layout). l.number) c.newest.ensures.is ∙ layout_number m.origin (state_of m).newest
+    ap (λ (l : Layout). l.number) c.newest.ensures.is ∙ layout_number m.image m.origin (state_of m).newest
     ∙ (linked m c.machines_stand.ensures.setting c.machines_stand.ensures.legal c.machines_stand.ensures.stands c.requires).newest
