@@ -6,12 +6,12 @@ use Rattle.asm_text.specs.declared.faults.AsmRule.{AsmRule}
 use Rattle.asm_text.specs.declared.faults.AsmRule.TheVariants.{Entry, Form, Name, Open, Range, Twice}
 use Rattle.asm_text.specs.declared.faults.LineFault.{LineFault}
 use Rattle.asm_text.specs.Source.{Read, fault, source_of}
+use Rattle.asm_places.specs.Names.{entry_twice_line, name_twice_line, first_unknown, functions_in}
+use Rattle.asm_places.specs.Places.{misplaced_line, is_open, first_place}
+use Rattle.asm_places.specs.Ranges.{range_line}
+use Rattle.asm_places.specs.Targets.{first_far}
 use Rattle.rv_asm.specs.Checking.{Checks, IsChecked}
-use Rattle.rv_asm.specs.Names.{entry_twice_line, name_twice_line, first_unknown, functions_in}
 use Rattle.rv_asm.specs.Passes.{lower_line, earlier, else_fault, at_line, first_pass, second_pass, entry_of, is_function_name, final_pass, last_line, fault_of}
-use Rattle.rv_asm.specs.Places.{misplaced_line, is_open, first_place}
-use Rattle.rv_asm.specs.Ranges.{range_line}
-use Rattle.rv_asm.specs.Targets.{first_far}
 use Rattle.rv_asm.proofs.Forming.{source_good}
 
 no_fault : (a b : Option LineFault) → else_fault a b ≡ None → (a ≡ None) × (b ≡ None)

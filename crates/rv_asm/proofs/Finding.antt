@@ -7,15 +7,15 @@ use Rattle.asm_text.specs.declared.statements.Statement.{Statement}
 use Rattle.asm_text.specs.declared.statements.Statement.TheVariants as statement
 use Rattle.asm_text.specs.declared.statements.Item.{Item}
 use Rattle.sh_types.specs.declared.code.Function.{Function}
-use Rattle.rv_asm.specs.declared.places.Place.{Place}
-use Rattle.rv_asm.specs.declared.symbols.Scoped.{Scoped}
-use Rattle.rv_asm.specs.Places.{is_misplaced, is_inside_after, misplaced_line, is_open, begins, place_after, first_place}
-use Rattle.rv_asm.specs.Names.{key_of, same_key, is_taken, keys_in, function_key, functions_in}
-use Rattle.rv_asm.specs.Sets.{is_key}
-use Rattle.rv_asm.specs.Data.{laid, text_end}
-use Rattle.rv_asm.specs.Functions.{ended, open_after, functions_from, functions_of}
-use Rattle.rv_asm.specs.Symbols.{symbol, scoped, counted, function_symbol, data_label, inner_symbol, las_in, outer_symbols, inner_symbols, named_symbols, is_named}
-use Rattle.rv_asm.proofs.Knowing.{taken_with}
+use Rattle.asm_places.specs.declared.places.Place.{Place}
+use Rattle.asm_places.specs.Places.{is_misplaced, is_inside_after, misplaced_line, is_open, begins, place_after, first_place}
+use Rattle.asm_places.specs.Names.{key_of, same_key, is_taken, keys_in, function_key, functions_in}
+use Rattle.asm_places.specs.Sets.{is_key}
+use Rattle.asm_places.proofs.Knowing.{taken_with}
+use Rattle.asm_places.specs.declared.symbols.Scoped.{Scoped}
+use Rattle.asm_places.specs.Laying.{laid, text_end}
+use Rattle.asm_places.specs.Functions.{ended, open_after, functions_from, functions_of}
+use Rattle.asm_places.specs.Symbols.{symbol, scoped, counted, function_symbol, data_label, inner_symbol, las_in, outer_symbols, inner_symbols, named_symbols, is_named}
 use Rattle.rv_asm.proofs.Reaching.{placed_line}
 
 -- a symbol has the name in its scope

@@ -10,9 +10,9 @@ use Rattle.rv_table.specs.declared.rows.Form.TheVariants.{Upper, Jump, Branch, I
 use Rattle.rv_table.specs.Decoding.{made, signed_bits}
 use Rattle.asm_text.specs.declared.statements.Statement.{Statement}
 use Rattle.asm_text.specs.declared.statements.Statement.TheVariants as statement
+use Rattle.asm_places.specs.Places.{natural, is_small}
+use Rattle.asm_places.specs.Ranges.{is_from, is_immediate, is_in_range}
 use Rattle.rv_asm.specs.Formed.{HasOperands, IsFormed}
-use Rattle.rv_asm.specs.Places.{natural, is_small}
-use Rattle.rv_asm.specs.Ranges.{is_from, is_immediate, is_in_range}
 use Rattle.rv_asm.specs.Words.{upper, lower, instrs_of, AreInstrs}
 
 -- a number in range fits the form

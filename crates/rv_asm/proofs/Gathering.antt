@@ -5,9 +5,9 @@ use Rattle.std.specs.List.{concat}
 use Rattle.asm_text.specs.declared.faults.LineFault.{LineFault}
 use Rattle.asm_text.specs.Sizes.{items_size}
 use Rattle.asm_text.specs.Source.{source_of}
+use Rattle.asm_places.specs.Functions.{functions_of}
 use Rattle.rv_asm.specs.Checking.{Checks, IsChecked}
 use Rattle.rv_asm.specs.Data.{text_of}
-use Rattle.rv_asm.specs.Functions.{functions_of}
 use Rattle.rv_asm.specs.Object.{words_in, object_from, object_of}
 use Rattle.rv_asm.specs.Passes.{fault_of}
 use Rattle.rv_asm.specs.Whole.{IsWhole}

@@ -13,17 +13,18 @@ use Rattle.rv_table.specs.Decoding.{made}
 use Rattle.asm_text.specs.declared.statements.Statement.{Statement}
 use Rattle.asm_text.specs.declared.statements.Statement.TheVariants as statement
 use Rattle.asm_text.specs.declared.statements.Item.{Item}
-use Rattle.rv_asm.specs.declared.places.Place.{Place}
-use Rattle.rv_asm.specs.declared.targets.Target.{Target}
+use Rattle.asm_places.specs.declared.places.Place.{Place}
+use Rattle.asm_places.specs.declared.targets.Target.{Target}
+use Rattle.asm_places.specs.Names.{is_taken, keys_with, functions_in, function_key}
+use Rattle.asm_places.specs.Places.{is_small, natural, padding, text_size, data_size, is_misplaced, is_inside_after, misplaced_line, is_open, place_after, first_place}
+use Rattle.asm_places.specs.Targets.{target_of, distance_to, last_place}
+use Rattle.asm_places.specs.Laying.{laid, text_end}
+use Rattle.asm_places.specs.Functions.{ended, open_after, functions_from, functions_of}
 use Rattle.rv_asm.specs.Checking.{IsChecked}
-use Rattle.rv_asm.specs.Data.{laid, low_bytes, address_or, data_bytes, text_words, target_in, text_end, text_of, data_of}
+use Rattle.rv_asm.specs.Data.{low_bytes, address_or, data_bytes, text_words, target_in, text_of, data_of}
 use Rattle.rv_asm.specs.Formed.{IsFormed, AreFormed}
-use Rattle.rv_asm.specs.Functions.{ended, open_after, functions_from, functions_of}
-use Rattle.rv_asm.specs.Names.{is_taken, keys_with, functions_in, function_key}
 use Rattle.rv_asm.specs.Object.{words_in, function_number, entry_number}
 use Rattle.rv_asm.specs.Passes.{entry_of, is_function_name}
-use Rattle.rv_asm.specs.Places.{is_small, natural, padding, text_size, data_size, is_misplaced, is_inside_after, misplaced_line, is_open, place_after, first_place}
-use Rattle.rv_asm.specs.Targets.{target_of, distance_to, last_place}
 use Rattle.rv_asm.specs.Words.{upper, lower, instrs_of, plain_words, words_of}
 use Rattle.rv_asm.proofs.Reaching.{short_text, short_data, last_short, placed_line}
 

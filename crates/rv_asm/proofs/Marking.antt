@@ -4,10 +4,10 @@ use Rattle.std.specs.Prelude.{Option}
 use Rattle.asm_text.specs.declared.statements.Statement.{Statement}
 use Rattle.asm_text.specs.declared.statements.Statement.TheVariants as statement
 use Rattle.asm_text.specs.declared.statements.Item.{Item}
-use Rattle.rv_asm.specs.declared.places.Place.{Place}
-use Rattle.rv_asm.specs.Symbols.{counted}
+use Rattle.asm_places.specs.declared.places.Place.{Place}
+use Rattle.asm_places.specs.Symbols.{counted}
+use Rattle.asm_places.proofs.Counting.{counted_same}
 use Rattle.rv_asm.specs.Marks.{mark, number_or, label_or, reference_kind, marks_at, inner_in}
-use Rattle.rv_asm.proofs.Counting.{counted_same}
 
 one_same : (f g : ℕ → List ℕ → Option ℕ) (first : ℕ) → ((s : ℕ) (q : List ℕ) → f s q ≡ g s q) → (next : ℕ) (p : Place) (s : Statement) → marks_at f first next p s ≡ marks_at g first next p s
 unfolding marks_at

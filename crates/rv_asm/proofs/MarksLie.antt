@@ -8,14 +8,14 @@ use Rattle.asm_text.specs.declared.statements.Statement.TheVariants as statement
 use Rattle.asm_text.specs.declared.statements.Item.{Item}
 use Rattle.sh_types.specs.declared.objects.Mark.{Mark}
 use Rattle.sh_types.specs.declared.objects.Object.{Object}
-use Rattle.rv_asm.specs.declared.places.Place.{Place}
+use Rattle.asm_places.specs.declared.places.Place.{Place}
+use Rattle.asm_places.specs.Places.{text_size, data_size, place_after, first_place}
+use Rattle.asm_places.specs.Targets.{last_place}
+use Rattle.asm_places.specs.Laying.{text_end}
+use Rattle.asm_places.specs.Symbols.{counted, number_in, named_symbols, outer_symbols}
 use Rattle.rv_asm.specs.Checking.{IsChecked}
-use Rattle.rv_asm.specs.Data.{text_end}
 use Rattle.rv_asm.specs.Formed.{IsFormed, AreFormed}
 use Rattle.rv_asm.specs.Marks.{mark, number_or, label_or, reference_kind, marks_at, inner_in, marks_of}
-use Rattle.rv_asm.specs.Places.{text_size, data_size, place_after, first_place}
-use Rattle.rv_asm.specs.Symbols.{counted, number_in, named_symbols, outer_symbols}
-use Rattle.rv_asm.specs.Targets.{last_place}
 use Rattle.rv_asm.specs.Whole.{text_bytes, IsInside, AreRising}
 
 -- ---- places never fall

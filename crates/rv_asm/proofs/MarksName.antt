@@ -9,13 +9,13 @@ use Rattle.asm_text.specs.Tables.{first_of}
 use Rattle.asm_text.specs.declared.statements.Statement.{Statement}
 use Rattle.asm_text.specs.declared.statements.Statement.TheVariants as statement
 use Rattle.asm_text.specs.declared.statements.Item.{Item}
-use Rattle.rv_asm.specs.declared.places.Place.{Place}
+use Rattle.asm_places.specs.declared.places.Place.{Place}
 use Rattle.sh_types.specs.declared.objects.Mark.{Mark}
-use Rattle.rv_asm.specs.declared.symbols.Scoped.{Scoped}
+use Rattle.asm_places.specs.Names.{is_taken, keys_in, functions_in, is_known, unknown_line}
+use Rattle.asm_places.specs.Places.{begins, place_after, first_place}
+use Rattle.asm_places.specs.declared.symbols.Scoped.{Scoped}
+use Rattle.asm_places.specs.Symbols.{counted, la_name, inner_symbol, las_in, inner_symbols, outer_symbols, named_symbols, symbols_of, symbol_of, is_named, number_at, number_in}
 use Rattle.rv_asm.specs.Checking.{IsChecked}
-use Rattle.rv_asm.specs.Names.{is_taken, keys_in, functions_in, is_known, unknown_line}
-use Rattle.rv_asm.specs.Places.{begins, place_after, first_place}
-use Rattle.rv_asm.specs.Symbols.{counted, la_name, inner_symbol, las_in, inner_symbols, outer_symbols, named_symbols, symbols_of, symbol_of, is_named, number_at, number_in}
 use Rattle.rv_asm.specs.Marks.{number_or, label_or, marks_at, inner_in, marks_of, names_at, marked_names, name_of_symbol}
 use Rattle.rv_asm.proofs.Finding.{is_symbol, found, function_taken}
 use Rattle.rv_asm.proofs.Numbering.{inner_length}

@@ -9,12 +9,12 @@ use Rattle.asm_text.specs.declared.statements.Statement.TheVariants as statement
 use Rattle.asm_text.specs.declared.statements.Item.{Item}
 use Rattle.asm_text.specs.Sizes.{defined_size, items_size}
 use Rattle.asm_text.specs.Source.{source_of}
-use Rattle.rv_asm.specs.declared.places.Place.{Place}
-use Rattle.rv_asm.specs.declared.symbols.Scoped.{Scoped}
-use Rattle.rv_asm.specs.Data.{laid, text_end}
-use Rattle.rv_asm.specs.Functions.{ended, open_after, functions_from, functions_of}
-use Rattle.rv_asm.specs.Places.{place_after, first_place}
-use Rattle.rv_asm.specs.Symbols.{counted, function_symbol, data_label, inner_symbol, las_in, la_name, outer_symbols, inner_symbols, symbol_of, symbols_of}
+use Rattle.asm_places.specs.declared.places.Place.{Place}
+use Rattle.asm_places.specs.Places.{place_after, first_place}
+use Rattle.asm_places.specs.declared.symbols.Scoped.{Scoped}
+use Rattle.asm_places.specs.Laying.{laid, text_end}
+use Rattle.asm_places.specs.Functions.{ended, open_after, functions_from, functions_of}
+use Rattle.asm_places.specs.Symbols.{counted, function_symbol, data_label, inner_symbol, las_in, la_name, outer_symbols, inner_symbols, symbol_of, symbols_of}
 use Rattle.rv_asm.specs.Whole.{names_size}
 
 -- the bytes of the names of symbols with their scopes

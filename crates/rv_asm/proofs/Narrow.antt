@@ -5,7 +5,7 @@ use Rattle.std.proofs.lemmas.Bool.{ltb-true, lt-ltb}
 use Rattle.rv_table.specs.declared.instructions.Op.{Op}
 use Rattle.rv_table.specs.declared.instructions.Op.TheVariants.{Slli, Srli, Srai, Slliw, Srliw, Sraiw}
 use Rattle.rv_table.specs.Instruction.{IsSigned}
-use Rattle.rv_asm.specs.Ranges.{is_from, is_immediate, is_value}
+use Rattle.asm_places.specs.Ranges.{is_from, is_immediate, is_value}
 
 from_small : (low high : ℕ) (imm : ℤ) → low ≤ 2048 → high ≤ 2048 → is_from low high imm ≡ true → IsSigned 11 imm
 from_small low high (pos n) l h e = let lt : n < high = ltb-true n high e in omega arith

@@ -8,11 +8,11 @@ use Rattle.asm_text.specs.Tables.{first_of}
 use Rattle.asm_text.specs.declared.statements.Statement.{Statement}
 use Rattle.asm_text.specs.declared.statements.Statement.TheVariants as statement
 use Rattle.asm_text.specs.declared.statements.Item.{Item}
-use Rattle.rv_asm.specs.declared.places.Place.{Place}
+use Rattle.asm_places.specs.declared.places.Place.{Place}
 use Rattle.sh_types.specs.declared.objects.Mark.{Mark}
-use Rattle.rv_asm.specs.declared.symbols.Scoped.{Scoped}
-use Rattle.rv_asm.specs.Places.{place_after, first_place}
-use Rattle.rv_asm.specs.Symbols.{counted, inner_symbol, las_in, inner_symbols, outer_symbols, named_symbols, symbols_of, symbol_of, is_named, number_if, number_at, number_in}
+use Rattle.asm_places.specs.Places.{place_after, first_place}
+use Rattle.asm_places.specs.declared.symbols.Scoped.{Scoped}
+use Rattle.asm_places.specs.Symbols.{counted, inner_symbol, las_in, inner_symbols, outer_symbols, named_symbols, symbols_of, symbol_of, is_named, number_if, number_at, number_in}
 use Rattle.rv_asm.specs.Marks.{mark, number_or, label_or, marks_at, inner_in, marks_of}
 
 first_low : (bound : ℕ) (a b : Option ℕ) → number_or a < bound → number_or b < bound → number_or (first_of a b) < bound

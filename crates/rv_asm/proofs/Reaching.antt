@@ -12,18 +12,18 @@ use Rattle.asm_text.specs.Tables.{first_of}
 use Rattle.asm_text.specs.declared.statements.Statement.{Statement}
 use Rattle.asm_text.specs.declared.statements.Statement.TheVariants as statement
 use Rattle.asm_text.specs.declared.statements.Item.{Item}
-use Rattle.rv_asm.specs.declared.places.Place.{Place}
-use Rattle.rv_asm.specs.declared.targets.Target.{Target}
+use Rattle.asm_places.specs.declared.places.Place.{Place}
+use Rattle.asm_places.specs.declared.targets.Target.{Target}
+use Rattle.asm_places.specs.Names.{key_of, same_key}
+use Rattle.asm_places.specs.Places.{is_small, is_misplaced, is_inside_after, misplaced_line, text_size, begins, place_after, first_place}
+use Rattle.asm_places.specs.Ranges.{is_from, is_past, range_line}
+use Rattle.asm_places.specs.Targets.{target_here, targets_with, targets_in, target_if, target_at, label_or_function, target_of, address_of, data_start, distance_to, is_reached, far_line, last_place}
+use Rattle.asm_places.proofs.Placing.{all_fine}
+use Rattle.asm_places.proofs.Targeting.{of_same}
 use Rattle.rv_asm.specs.Checking.{IsChecked}
 use Rattle.rv_asm.specs.Fitting.{Fits, AllFit}
 use Rattle.rv_asm.specs.Formed.{IsFormed, AreFormed}
-use Rattle.rv_asm.specs.Names.{key_of, same_key}
-use Rattle.rv_asm.specs.Places.{is_small, is_misplaced, is_inside_after, misplaced_line, text_size, begins, place_after, first_place}
-use Rattle.rv_asm.specs.Ranges.{is_from, is_past, range_line}
-use Rattle.rv_asm.specs.Targets.{target_here, targets_with, targets_in, target_if, target_at, label_or_function, target_of, address_of, data_start, distance_to, is_reached, far_line, last_place}
 use Rattle.rv_asm.proofs.Fitting.{Reaches, are_instrs}
-use Rattle.rv_asm.proofs.Placing.{all_fine}
-use Rattle.rv_asm.proofs.Targeting.{of_same}
 
 -- ---- differences
 

@@ -12,13 +12,14 @@ use Rattle.rv_table.specs.declared.rows.Row.{Row}
 use Rattle.rv_table.specs.Decoding.{decoded}
 use Rattle.rv_table.proofs.Reading.{decoded_encodes}
 use Rattle.asm_text.specs.declared.statements.Item.{Item}
-use Rattle.rv_asm.specs.declared.places.Place.{Place}
-use Rattle.rv_asm.specs.declared.targets.Target.{Target}
+use Rattle.asm_places.specs.declared.places.Place.{Place}
+use Rattle.asm_places.specs.declared.targets.Target.{Target}
+use Rattle.asm_places.specs.Places.{place_after, first_place}
+use Rattle.asm_places.specs.Targets.{distance_to, target_of, last_place}
+use Rattle.asm_places.specs.Laying.{text_end}
 use Rattle.rv_asm.specs.Checking.{IsChecked}
-use Rattle.rv_asm.specs.Data.{target_in, text_end}
+use Rattle.rv_asm.specs.Data.{target_in}
 use Rattle.rv_asm.specs.Fitting.{AllFit, AllDecode}
-use Rattle.rv_asm.specs.Places.{place_after, first_place}
-use Rattle.rv_asm.specs.Targets.{distance_to, target_of, last_place}
 use Rattle.rv_asm.specs.Words.{AreInstrs, instrs_of}
 use Rattle.rv_asm.proofs.Reaching.{checked_fit}
 

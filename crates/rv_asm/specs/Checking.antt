@@ -4,12 +4,12 @@ use Rattle.asm_text.specs.declared.statements.Item.{Item}
 use Rattle.asm_text.specs.declared.faults.AsmFault.{AsmFault}
 use Rattle.asm_text.specs.declared.faults.AsmFault.TheVariants as refusal
 use Rattle.asm_text.specs.declared.faults.LineFault.{LineFault}
+use Rattle.asm_places.specs.Names.{entry_twice_line, name_twice_line, first_unknown, functions_in}
+use Rattle.asm_places.specs.Places.{misplaced_line, is_open, first_place}
+use Rattle.asm_places.specs.Ranges.{range_line}
+use Rattle.asm_places.specs.Targets.{first_far}
 use Rattle.rv_asm.specs.Formed.{AreFormed}
-use Rattle.rv_asm.specs.Names.{entry_twice_line, name_twice_line, first_unknown, functions_in}
 use Rattle.rv_asm.specs.Passes.{entry_of, is_function_name}
-use Rattle.rv_asm.specs.Places.{misplaced_line, is_open, first_place}
-use Rattle.rv_asm.specs.Ranges.{range_line}
-use Rattle.rv_asm.specs.Targets.{first_far}
 
 abbrev pub refused_of : LineFault → AsmFault
 refused_of f = refusal.Line f.line f.rule

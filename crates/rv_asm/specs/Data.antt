@@ -1,20 +1,16 @@
 -- The bytes of the data, and the words of the text, one statement behind the other.
-use Rattle.std.specs.Prelude.{ℕ, min, Option, Some, None, List, [], ◌∷◌, ◌++◌, take, replicate}
+use Rattle.std.specs.Prelude.{ℕ, min, Option, Some, None, List, [], take, replicate}
 use Rattle.std.specs.Int.{w64, to_le_bytes}
 use Rattle.rv_table.specs.Instruction.{low_bits}
 use Rattle.asm_text.specs.declared.statements.Statement.{Statement}
 use Rattle.asm_text.specs.declared.statements.Statement.TheVariants as statement
 use Rattle.asm_text.specs.declared.statements.Item.{Item}
-use Rattle.rv_asm.specs.declared.places.Place.{Place}
-use Rattle.rv_asm.specs.declared.targets.Target.{Target}
-use Rattle.rv_asm.specs.Places.{place_after, first_place, natural, padding}
-use Rattle.rv_asm.specs.Targets.{target_of, target_at, targets_in, address_of, distance_to, last_place}
+use Rattle.asm_places.specs.declared.places.Place.{Place}
+use Rattle.asm_places.specs.declared.targets.Target.{Target}
+use Rattle.asm_places.specs.Laying.{laid, text_end}
+use Rattle.asm_places.specs.Places.{first_place, natural, padding}
+use Rattle.asm_places.specs.Targets.{target_of, target_at, targets_in, address_of, distance_to}
 use Rattle.rv_asm.specs.Words.{words_of}
-
--- what the statements give at their places, one behind the other
-unfoldable pub laid : {A : Type 0} → (Place → Statement → List A) → Place → List Item → List A
-laid give place [] = []
-laid give place (item ∷ items) = give place item.statement ++ laid give (place_after place item.statement) items
 
 -- the low bytes of a number, the lowest first
 abbrev pub low_bytes : ℕ → ℕ → List ℕ
@@ -39,10 +35,6 @@ text_words find size place s = words_of (distance_to size place (target_of find 
 
 abbrev pub target_in : List Item → ℕ → List ℕ → Option Target
 target_in items scope name = target_at (targets_in first_place items) (scope, name)
-
--- the size of the text
-abbrev pub text_end : List Item → ℕ
-text_end items = (last_place first_place items).text
 
 -- the data and the text of a source
 abbrev pub data_of : List Item → List ℕ

@@ -4,10 +4,10 @@ use Rattle.rv_table.specs.Decoding.{decoded}
 use Rattle.rv_table.specs.Instruction.{IsSigned, word_of}
 use Rattle.asm_text.specs.declared.statements.Statement.{Statement}
 use Rattle.asm_text.specs.declared.statements.Item.{Item}
-use Rattle.rv_asm.specs.declared.places.Place.{Place}
-use Rattle.rv_asm.specs.declared.targets.Target.{Target}
-use Rattle.rv_asm.specs.Places.{place_after}
-use Rattle.rv_asm.specs.Targets.{target_of, distance_to}
+use Rattle.asm_places.specs.declared.places.Place.{Place}
+use Rattle.asm_places.specs.declared.targets.Target.{Target}
+use Rattle.asm_places.specs.Places.{place_after}
+use Rattle.asm_places.specs.Targets.{target_of, distance_to}
 use Rattle.rv_asm.specs.Words.{AreInstrs, instrs_of}
 
 -- the distance has 32 bits with a sign, and the statement's instructions at that distance are all in their ranges

@@ -4,10 +4,10 @@ use Rattle.sh_types.specs.declared.symbols.Symbol.{Symbol}
 use Rattle.asm_text.specs.declared.statements.Statement.{Statement}
 use Rattle.asm_text.specs.declared.statements.Statement.TheVariants as statement
 use Rattle.asm_text.specs.declared.statements.Item.{Item}
-use Rattle.rv_asm.specs.declared.places.Place.{Place}
+use Rattle.asm_places.specs.declared.places.Place.{Place}
 use Rattle.sh_types.specs.declared.objects.Mark.{Mark}
-use Rattle.rv_asm.specs.Places.{first_place}
-use Rattle.rv_asm.specs.Symbols.{counted, named_symbols, outer_symbols, number_in, la_name, las_in}
+use Rattle.asm_places.specs.Places.{first_place}
+use Rattle.asm_places.specs.Symbols.{counted, named_symbols, outer_symbols, number_in, la_name, las_in}
 
 abbrev pub mark : Bool → ℕ → ℕ → ℕ → Mark
 mark in_text at kind symbol = record { in_text = in_text; at = at; kind = kind; symbol = symbol }

@@ -8,10 +8,10 @@ use Rattle.asm_text.specs.declared.faults.LineFault.{LineFault}
 use Rattle.asm_text.specs.declared.statements.Item.{Item}
 use Rattle.asm_text.specs.Source.{source_of}
 use Rattle.sh_types.specs.declared.objects.Object.{Object}
+use Rattle.asm_places.specs.Functions.{functions_of}
+use Rattle.asm_places.specs.Symbols.{symbols_of}
 use Rattle.rv_asm.specs.Data.{text_of, data_of}
-use Rattle.rv_asm.specs.Functions.{functions_of}
 use Rattle.rv_asm.specs.Passes.{entry_of}
-use Rattle.rv_asm.specs.Symbols.{symbols_of}
 use Rattle.rv_asm.specs.Marks.{marks_of}
 
 -- the words of a function, out of those of the text

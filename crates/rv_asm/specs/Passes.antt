@@ -7,10 +7,10 @@ use Rattle.asm_text.specs.declared.faults.AsmRule.{AsmRule}
 use Rattle.asm_text.specs.declared.faults.AsmRule.TheVariants.{Entry, Form, Name, Open, Range, Twice}
 use Rattle.asm_text.specs.declared.faults.LineFault.{LineFault}
 use Rattle.asm_text.specs.Source.{Read, fault, source_of}
-use Rattle.rv_asm.specs.Names.{entry_twice_line, name_twice_line, first_unknown, functions_in, is_taken}
-use Rattle.rv_asm.specs.Places.{misplaced_line, is_open, first_place}
-use Rattle.rv_asm.specs.Ranges.{range_line}
-use Rattle.rv_asm.specs.Targets.{first_far}
+use Rattle.asm_places.specs.Names.{entry_twice_line, name_twice_line, first_unknown, functions_in, is_taken}
+use Rattle.asm_places.specs.Places.{misplaced_line, is_open, first_place}
+use Rattle.asm_places.specs.Ranges.{range_line}
+use Rattle.asm_places.specs.Targets.{first_far}
 
 -- the lower of two lines
 abbrev pub lower_line : Option ℕ → Option ℕ → Option ℕ

@@ -6,7 +6,7 @@ use Rattle.rv_table.specs.Instruction.{low_bits, word_of, IsInstr}
 use Rattle.rv_table.specs.Decoding.{made, signed_bits}
 use Rattle.asm_text.specs.declared.statements.Statement.{Statement}
 use Rattle.asm_text.specs.declared.statements.Statement.TheVariants as statement
-use Rattle.rv_asm.specs.Places.{natural, is_small}
+use Rattle.asm_places.specs.Places.{natural, is_small}
 
 -- the upper 20 bits of a number of 32 bits, rounded so that the lower 12 bits, read with their sign, make up the rest
 abbrev pub hi20 : ℕ → ℕ

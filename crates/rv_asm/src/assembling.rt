@@ -1,20 +1,20 @@
 //! Sources become objects.
 ghost use Rattle.std.specs.Prelude.{◌≡◌, ◌≤◌, ◌<◌, ◌+◌, ◌^◌, ◌++◌, ◌∷◌, [], take, drop, None, map, length, IfOk, OnOk};
+ghost use Rattle.asm_places.specs.Places.{first_place};
+ghost use Rattle.asm_places.specs.Ranges.{range_line};
+ghost use Rattle.asm_places.specs.Functions.{functions_of as functions_of_of};
+ghost use Rattle.asm_places.specs.Symbols.{symbol_of, null_symbol, named_symbols as named_symbols_of, outer_symbols};
 ghost use Rattle.rv_asm.specs.Checking.{IsChecked};
 ghost use Rattle.rv_asm.specs.Data.{text_of as text_of_of};
-ghost use Rattle.rv_asm.specs.Functions.{functions_of as functions_of_of};
 ghost use Rattle.rv_asm.specs.Object.{words_in as words_in_of, function_number as function_number_of, entry_number as entry_number_of, object_from as object_from_of, object_of, Assembles};
 ghost use Rattle.rv_asm.specs.Passes.{entry_of, fault_of};
-ghost use Rattle.rv_asm.specs.Places.{first_place};
-ghost use Rattle.rv_asm.specs.Ranges.{range_line};
-ghost use Rattle.rv_asm.specs.Symbols.{symbol_of, null_symbol, named_symbols as named_symbols_of, outer_symbols};
 
 use crate::checking::{checked, entry_name};
 use crate::data::{data_of, text_of};
-use crate::functions::functions_of;
 use crate::marks::{marks_of, narrow};
-use crate::symbols::{Scoped, push_data_labels, push_functions, push_inner_symbols};
-use crate::targets::last_place;
+use asm_places::{
+    Scoped, functions_of, last_place, push_data_labels, push_functions, push_inner_symbols,
+};
 use asm_text::{AsmFault, Item};
 use sh_types::{Bytes, Function, Items, NoMemory, Object, Symbol, SymbolName};
 use std::alloc::{AllocError, Global};

@@ -1,14 +1,12 @@
 //! The first fault of a source.
 ghost use Rattle.std.specs.Prelude.{◌≡◌, ◌≤◌, ◌==◌, option_map, length, count_by, IfOk};
 ghost use Rattle.asm_text.specs.Source.{source_of};
+ghost use Rattle.asm_places.specs.Names.{functions_in};
 ghost use Rattle.rv_asm.specs.Checking.{Checks, IsChecked, refused_of};
-ghost use Rattle.rv_asm.specs.Names.{functions_in};
 ghost use Rattle.rv_asm.specs.Passes.{entry_of, is_function_name, final_pass as final_pass_of, last_line as last_line_of, fault_of};
 
-use crate::distances::first_far;
-use crate::known::{all_functions, contains};
 use crate::passes::{at_line, first_pass, second_pass};
-use crate::places::is_open;
+use asm_places::{all_functions, contains, first_far, is_open};
 use asm_text::{AsmFault, AsmRule, Item, LineFault, Statement, read};
 use sh_types::{Items, NoMemory};
 use std::alloc::Global;

@@ -1,19 +1,21 @@
 //! The bytes of the data and the words of the text.
 ghost use Rattle.std.specs.Prelude.{◌≡◌, ◌≤◌, ◌<◌, ◌^◌, ◌++◌, true, false, None, replicate, length, IfOk, OnOk, IsOkUnless};
 ghost use Rattle.rv_table.specs.Instruction.{low_bits};
+ghost use Rattle.asm_places.specs.Maps.{has_at};
+ghost use Rattle.asm_places.specs.Places.{first_place};
+ghost use Rattle.asm_places.specs.Ranges.{is_from, is_in_range, is_past, range_line};
+ghost use Rattle.asm_places.specs.Targets.{distance_to, target_of as target_of_of};
+ghost use Rattle.asm_places.specs.Laying.{laid};
 ghost use Rattle.rv_asm.specs.declared.writing.Unwritten.TheVariants as unwritten;
 ghost use Rattle.rv_asm.specs.Checking.{IsChecked};
-ghost use Rattle.rv_asm.specs.Data.{laid, low_bytes, address_or as address_or_of, data_bytes, text_words, data_of as data_of_of, text_of as text_of_of};
+ghost use Rattle.rv_asm.specs.Data.{low_bytes, address_or as address_or_of, data_bytes, text_words, data_of as data_of_of, text_of as text_of_of};
 ghost use Rattle.rv_asm.specs.Fitting.{Fits, AllFit};
-ghost use Rattle.rv_asm.specs.Maps.{has_at};
-ghost use Rattle.rv_asm.specs.Places.{first_place};
-ghost use Rattle.rv_asm.specs.Ranges.{is_from, is_in_range, is_past, range_line};
-ghost use Rattle.rv_asm.specs.Targets.{distance_to, target_of as target_of_of};
 
-use crate::distances::{address, distance, find, target_of};
-use crate::places::{Place, alignment, natural, padding};
-use crate::targets::{Target, all_targets, last_place, next_place, start};
 use crate::writing::{Unwritten, push_words};
+use asm_places::{
+    Place, Target, address, alignment, all_targets, distance, find, last_place, natural,
+    next_place, padding, start, target_of,
+};
 use asm_text::{Item, Statement};
 use std::alloc::{AllocError, Global};
 use std::collections::BTreeMap;
@@ -56,7 +58,7 @@ fn address_or_0(size: u64, target: Option<Target>) -> u64
     }
 }
 
-#[tactic(auto, using(crate::proofs::Narrow::value_wide), unfolding(crate::specs::Data::data_bytes, crate::specs::Ranges::is_in_range))]
+#[tactic(auto, using(crate::proofs::Narrow::value_wide), unfolding(crate::specs::Data::data_bytes, asm_places::specs::Ranges::is_in_range))]
 fn push_data<'a>(
     bytes: &mut Vec<u8>,
     targets: &BTreeMap<(usize, &'a [u8]), Target>,
@@ -81,7 +83,7 @@ fn push_data<'a>(
     }
 }
 
-#[tactic(auto, using(crate::proofs::Placing::is_fine, crate::proofs::Placing::not_past))]
+#[tactic(auto, using(asm_places::proofs::Placing::is_fine, asm_places::proofs::Placing::not_past))]
 fn data_with<'a>(
     alloc: Global,
     targets: &BTreeMap<(usize, &'a [u8]), Target>,
@@ -135,7 +137,7 @@ fn push_text<'a>(
     push_words(words, statement, distance)
 }
 
-#[tactic(auto, using(crate::proofs::Placing::is_fine, crate::proofs::Placing::not_past, crate::proofs::Reaching::fits_here))]
+#[tactic(auto, using(asm_places::proofs::Placing::is_fine, asm_places::proofs::Placing::not_past, crate::proofs::Reaching::fits_here))]
 fn text_with<'a>(
     alloc: Global,
     targets: &BTreeMap<(usize, &'a [u8]), Target>,

@@ -6,14 +6,15 @@ ghost use Rattle.rv_table.specs.Instruction.{IsInstr, word_of};
 ghost use Rattle.rv_table.specs.Decoding.{decoded};
 ghost use Rattle.asm_text.specs.Source.{source_of};
 ghost use Rattle.asm_text.specs.declared.statements.Item.{Item};
+ghost use Rattle.asm_places.specs.Places.{first_place};
+ghost use Rattle.asm_places.specs.Laying.{text_end};
+ghost use Rattle.asm_places.specs.Symbols.{symbols_of};
 ghost use Rattle.rv_asm.specs.Checking.{IsChecked};
-ghost use Rattle.rv_asm.specs.Data.{target_in, text_end};
+ghost use Rattle.rv_asm.specs.Data.{target_in};
 ghost use Rattle.rv_asm.specs.Fitting.{AllDecode};
 ghost use Rattle.rv_asm.specs.Marks.{marks_of, marked_names, name_of_symbol};
 ghost use Rattle.rv_asm.specs.Object.{object_of};
 ghost use Rattle.rv_asm.specs.Passes.{fault_of};
-ghost use Rattle.rv_asm.specs.Places.{first_place};
-ghost use Rattle.rv_asm.specs.Symbols.{symbols_of};
 ghost use Rattle.rv_asm.specs.Whole.{IsWhole};
 
 use asm_text::statements_lie_in_their_text;

@@ -1,14 +1,12 @@
 //! The marks of what refers to what.
 ghost use Rattle.std.specs.Prelude.{◌≡◌, ◌≤◌, ◌<◌, ◌+◌, ◌^◌, ◌++◌, ◌∷◌, [], true, false, None, length, IfOk, OnOk};
+ghost use Rattle.asm_places.specs.Places.{first_place};
+ghost use Rattle.asm_places.specs.Ranges.{is_past, range_line};
+ghost use Rattle.asm_places.specs.Numbers.{number_of};
+ghost use Rattle.asm_places.specs.Symbols.{counted, number_in};
 ghost use Rattle.rv_asm.specs.Marks.{mark, number_or as number_or_of, label_or as label_or_of, reference_kind as reference_kind_of, marks_at, inner_in as inner_in_of};
-ghost use Rattle.rv_asm.specs.Numbers.{number_of};
-ghost use Rattle.rv_asm.specs.Places.{first_place};
-ghost use Rattle.rv_asm.specs.Ranges.{is_past, range_line};
-ghost use Rattle.rv_asm.specs.Symbols.{counted, number_in};
 
-use crate::places::Place;
-use crate::symbols::{Scoped, all_numbers, find_number};
-use crate::targets::{next_place, start};
+use asm_places::{Place, Scoped, all_numbers, find_number, next_place, start};
 use asm_text::{Item, Statement};
 use sh_types::{Mark, NoMemory};
 use std::alloc::Global;
@@ -143,7 +141,7 @@ fn inner_in(place: Place, statement: &Statement) -> usize
     }
 }
 
-#[tactic(auto, using(crate::proofs::Placing::is_fine, crate::proofs::Placing::not_past))]
+#[tactic(auto, using(asm_places::proofs::Placing::is_fine, asm_places::proofs::Placing::not_past))]
 fn marks_with<'a>(
     alloc: Global,
     numbers: &BTreeMap<(usize, &'a [u8]), usize>,

@@ -3,9 +3,7 @@ ghost use Rattle.std.specs.Prelude.{◌≡◌, ◌<◌, ◌^◌, length, IfOk};
 ghost use Rattle.asm_text.specs.Seen.{seen};
 ghost use Rattle.rv_asm.specs.Passes.{lower_line as lower_line_of, earlier as earlier_of, else_fault as else_fault_of, at_line as at_line_of, first_pass as first_pass_of, second_pass as second_pass_of};
 
-use crate::known::first_unknown;
-use crate::names::{entry_twice_line, name_twice_line};
-use crate::places::{misplaced_line, range_line};
+use asm_places::{entry_twice_line, first_unknown, misplaced_line, name_twice_line, range_line};
 use asm_text::{AsmRule, Item, LineFault, Source};
 use sh_types::NoMemory;
 use std::alloc::Global;

@@ -2,13 +2,13 @@
 ghost use Rattle.std.specs.Prelude.{◌≡◌, ◌<◌, ◌*◌, ◌^◌, [], ◌∷◌, true};
 ghost use Rattle.rv_table.specs.Instruction.{low_bits, IsSigned};
 ghost use Rattle.rv_table.specs.Decoding.{made, signed_bits};
-ghost use Rattle.rv_asm.specs.Ranges.{is_from, is_immediate, is_in_range};
-ghost use Rattle.rv_asm.specs.Places.{natural as natural_of, is_small as is_small_of};
+ghost use Rattle.asm_places.specs.Ranges.{is_from, is_immediate, is_in_range};
+ghost use Rattle.asm_places.specs.Places.{natural as natural_of, is_small as is_small_of};
 ghost use Rattle.rv_asm.specs.Words.{hi20, upper as upper_of, lower as lower_of, literal_of, instrs_of};
 ghost use Rattle.rv_table.specs.declared.instructions.Op.TheVariants.{Auipc};
 ghost use Rattle.rv_asm.specs.Seen.{instrs_seen};
 
-use crate::places::{is_small, natural};
+use asm_places::{is_small, natural};
 use asm_text::Statement;
 use rv_table::{Instr, Op};
 
@@ -144,7 +144,7 @@ fn one(op: Op, rd: u8, rs1: u8, rs2: u8, imm: i64) -> Sequence
 
 /// The instructions of a statement, at this distance from what it names: an instruction alone, one behind LUI or AUIPC,
 /// or none.
-#[tactic(auto, unfolding(crate::specs::Words::instrs_of, crate::specs::Ranges::is_in_range))]
+#[tactic(auto, unfolding(crate::specs::Words::instrs_of, asm_places::specs::Ranges::is_in_range))]
 pub fn instrs(statement: &Statement, distance: i64) -> Sequence
     requires range { is_in_range statement.now ≡ true }
     requires distance { IsSigned 31 distance }

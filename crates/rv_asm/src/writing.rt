@@ -1,15 +1,15 @@
 //! The words of statements.
 ghost use Rattle.std.specs.Prelude.{◌≡◌, ◌++◌, ◌∷◌, ◌^◌, [], true, replicate, OnOk};
 ghost use Rattle.rv_table.specs.Instruction.{IsSigned};
+ghost use Rattle.asm_places.specs.Places.{natural as natural_of};
+ghost use Rattle.asm_places.specs.Ranges.{is_from, is_in_range};
 ghost use Rattle.rv_asm.specs.declared.writing.Unwritten.TheVariants as unwritten;
-ghost use Rattle.rv_asm.specs.Places.{natural as natural_of};
-ghost use Rattle.rv_asm.specs.Ranges.{is_from, is_in_range};
 ghost use Rattle.rv_asm.specs.Seen.{instrs_seen};
 ghost use Rattle.rv_asm.specs.Words.{plain_words};
 ghost use Rattle.rv_asm.specs.Writing.{Writes, WritesWords};
 
-use crate::places::natural;
 use crate::words::{Sequence, instrs};
+use asm_places::natural;
 use asm_text::Statement;
 use rv_encode::encode;
 use rv_table::Instr;
@@ -84,7 +84,7 @@ fn push_nops(words: &mut Vec<u32>, count: u64) -> Result<(), AllocError>
     Ok(())
 }
 
-#[tactic(auto, unfolding(crate::specs::Words::plain_words, crate::specs::Ranges::is_in_range))]
+#[tactic(auto, unfolding(crate::specs::Words::plain_words, asm_places::specs::Ranges::is_in_range))]
 fn push_plain(words: &mut Vec<u32>, statement: &Statement) -> Result<(), AllocError>
     requires { is_in_range statement.now ≡ true }
     ensures { OnOk result (words.new.items ≡ words.old.items ++ plain_words statement.now) }

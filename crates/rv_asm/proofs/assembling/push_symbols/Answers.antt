@@ -1,7 +1,7 @@
 use Rattle.std.proofs.Common.{◌++◌}
 use Rattle.std.specs.Prelude.{map}
-use Rattle.rv_asm.specs.Symbols.{symbol_of}
-use Rattle.rv_asm.proofs.Counting.{map_goes_on, map_done}
+use Rattle.asm_places.specs.Symbols.{symbol_of}
+use Rattle.asm_places.proofs.Counting.{map_goes_on, map_done}
 use Rattle.rv_asm.proofs.assembling.push_symbols.Goals as goal
 
 pub loop-scoped-preserved : goal.loop-scoped-preserved

@@ -1,6 +1,6 @@
 use Rattle.std.proofs.Common.{◌≡◌, ◌++◌, drop}
 use Rattle.std.specs.Prelude.{map}
-use Rattle.rv_asm.specs.Symbols.{symbol_of}
+use Rattle.asm_places.specs.Symbols.{symbol_of}
 use Rattle.rv_asm.proofs.assembling.push_symbols.Given as goal
 
 abbrev pub invariant-loop-scoped : goal.invariant-loop-scoped

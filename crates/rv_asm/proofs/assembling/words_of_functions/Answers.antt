@@ -1,6 +1,6 @@
 use Rattle.std.specs.Prelude.{map}
+use Rattle.asm_places.proofs.Counting.{map_goes_on, map_done}
 use Rattle.rv_asm.specs.Object.{words_in}
-use Rattle.rv_asm.proofs.Counting.{map_goes_on, map_done}
 use Rattle.rv_asm.proofs.assembling.words_of_functions.Goals as goal
 
 pub loop-function-preserved : goal.loop-function-preserved

@@ -1,9 +1,10 @@
 use Rattle.std.proofs.Common.{◌≡◌, ◌≤◌, ◌++◌, false, drop}
 use Rattle.std.specs.Prelude.{None}
-use Rattle.rv_asm.specs.Places.{first_place}
-use Rattle.rv_asm.specs.Ranges.{is_past, range_line}
-use Rattle.rv_asm.specs.Maps.{has_at}
-use Rattle.rv_asm.specs.Data.{laid, data_bytes}
+use Rattle.asm_places.specs.Places.{first_place}
+use Rattle.asm_places.specs.Ranges.{is_past, range_line}
+use Rattle.asm_places.specs.Maps.{has_at}
+use Rattle.asm_places.specs.Laying.{laid}
+use Rattle.rv_asm.specs.Data.{data_bytes}
 use Rattle.rv_asm.proofs.data.data_with.Given as goal
 
 abbrev pub invariant-loop-item : goal.invariant-loop-item

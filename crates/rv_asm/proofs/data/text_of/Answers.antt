@@ -1,4 +1,4 @@
-use Rattle.rv_asm.specs.Maps.{has_at}
+use Rattle.asm_places.specs.Maps.{has_at}
 use Rattle.rv_asm.proofs.Reaching.{checked_fit}
 use Rattle.rv_asm.proofs.data.text_of.Goals as goal
 

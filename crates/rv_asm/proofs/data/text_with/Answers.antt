@@ -1,12 +1,13 @@
 use Rattle.std.proofs.Common.{◌≡◌, false, sym, subst}
-use Rattle.rv_asm.specs.declared.places.Place.{Place}
-use Rattle.rv_asm.specs.Places.{first_place}
-use Rattle.rv_asm.specs.Ranges.{is_past}
-use Rattle.rv_asm.specs.Maps.{has_at}
-use Rattle.rv_asm.specs.Data.{laid, text_words}
-use Rattle.rv_asm.proofs.Placing.{stays_fine, not_past}
-use Rattle.rv_asm.proofs.Ranging.{few_functions}
-use Rattle.rv_asm.proofs.Laying.{goes_on, done}
+use Rattle.asm_places.specs.declared.places.Place.{Place}
+use Rattle.asm_places.specs.Places.{first_place}
+use Rattle.asm_places.specs.Ranges.{is_past}
+use Rattle.asm_places.specs.Maps.{has_at}
+use Rattle.asm_places.proofs.Placing.{stays_fine, not_past}
+use Rattle.asm_places.proofs.Ranging.{few_functions}
+use Rattle.asm_places.specs.Laying.{laid}
+use Rattle.asm_places.proofs.Laying.{goes_on, done}
+use Rattle.rv_asm.specs.Data.{text_words}
 use Rattle.rv_asm.proofs.Reaching.{stays_fit}
 use Rattle.rv_asm.proofs.data.text_with.Goals as goal
 

@@ -1,10 +1,11 @@
 use Rattle.std.proofs.Common.{◌≡◌, ◌≤◌, ◌++◌, false, drop}
 use Rattle.std.specs.Prelude.{None}
-use Rattle.rv_asm.specs.Places.{first_place}
-use Rattle.rv_asm.specs.Ranges.{is_past, range_line}
-use Rattle.rv_asm.specs.Maps.{has_at}
+use Rattle.asm_places.specs.Places.{first_place}
+use Rattle.asm_places.specs.Ranges.{is_past, range_line}
+use Rattle.asm_places.specs.Maps.{has_at}
+use Rattle.asm_places.specs.Laying.{laid}
 use Rattle.rv_asm.specs.Fitting.{AllFit}
-use Rattle.rv_asm.specs.Data.{laid, text_words}
+use Rattle.rv_asm.specs.Data.{text_words}
 use Rattle.rv_asm.proofs.data.text_with.Given as goal
 
 abbrev pub invariant-loop-item : goal.invariant-loop-item

@@ -1,13 +1,13 @@
 use Rattle.std.proofs.Common.{◌≡◌, ◌+◌, false, sym, subst, arith, ap, ℕ}
-use Rattle.rv_asm.specs.declared.places.Place.{Place}
-use Rattle.rv_asm.specs.Places.{first_place}
-use Rattle.rv_asm.specs.Ranges.{is_past}
-use Rattle.rv_asm.specs.Numbers.{number_of}
-use Rattle.rv_asm.specs.Symbols.{counted}
+use Rattle.asm_places.specs.declared.places.Place.{Place}
+use Rattle.asm_places.specs.Places.{first_place}
+use Rattle.asm_places.specs.Ranges.{is_past}
+use Rattle.asm_places.proofs.Placing.{stays_fine, not_past}
+use Rattle.asm_places.proofs.Ranging.{few_functions}
+use Rattle.asm_places.specs.Numbers.{number_of}
+use Rattle.asm_places.specs.Symbols.{counted}
+use Rattle.asm_places.proofs.Counting.{goes_on, done}
 use Rattle.rv_asm.specs.Marks.{marks_at, inner_in}
-use Rattle.rv_asm.proofs.Placing.{stays_fine, not_past}
-use Rattle.rv_asm.proofs.Ranging.{few_functions}
-use Rattle.rv_asm.proofs.Counting.{goes_on, done}
 use Rattle.rv_asm.proofs.marks.marks_with.Goals as goal
 
 pub loop-item-preserved : goal.loop-item-preserved

@@ -1,9 +1,9 @@
 use Rattle.std.proofs.Common.{◌≡◌, ◌≤◌, ◌++◌, false, drop}
 use Rattle.std.specs.Prelude.{None}
-use Rattle.rv_asm.specs.Places.{first_place}
-use Rattle.rv_asm.specs.Ranges.{is_past, range_line}
-use Rattle.rv_asm.specs.Numbers.{number_of}
-use Rattle.rv_asm.specs.Symbols.{counted}
+use Rattle.asm_places.specs.Places.{first_place}
+use Rattle.asm_places.specs.Ranges.{is_past, range_line}
+use Rattle.asm_places.specs.Numbers.{number_of}
+use Rattle.asm_places.specs.Symbols.{counted}
 use Rattle.rv_asm.specs.Marks.{marks_at, inner_in}
 use Rattle.rv_asm.proofs.marks.marks_with.Given as goal
 

@@ -1,0 +1,27 @@
+use Rattle.std.proofs.Common.{◌≡◌, false, sym, subst}
+use Rattle.asm_places.specs.declared.places.Place.{Place}
+use Rattle.asm_places.specs.Places.{first_place}
+use Rattle.asm_places.specs.Ranges.{is_past}
+use Rattle.asm_places.specs.Targets.{last_place}
+use Rattle.asm_places.proofs.Placing.{stays_fine, not_past, last_goes_on, last_done}
+use Rattle.asm_places.proofs.Ranging.{few_functions}
+use Rattle.asm_places.proofs.targets.last_place.Goals as goal
+
+pub loop-item-preserved : goal.loop-item-preserved
+loop-item-preserved c =
+    let place = c.loop-item.place in
+    let next = c.next_place-place.result in
+    let items = c.args.items.now in
+    let i = c.loop-item.item-index in
+    let item = c.item-item.result in
+    let n = c.next_place-place.ensures in
+    let h = c.loop-item.invariant in
+    record {
+      range = stays_fine place next items i item c.loop-item-test.true c.item-item.is n h.range;
+      last = last_goes_on place next items i item (last_place first_place items) c.loop-item-test.true c.item-item.is n h.last;
+      short = subst (λ (q : Place). is_past q ≡ false) (sym n) (not_past place items i item c.loop-item-test.true c.item-item.is h.range);
+      few = few_functions place next item.statement i n h.few;
+    }
+
+pub returns-clause-place : goal.returns-clause-place
+returns-clause-place c = last_done c.loop-item.place c.args.items.now c.loop-item.item-index (last_place first_place c.args.items.now) c.loop-item-test.false c.loop-item.invariant.last

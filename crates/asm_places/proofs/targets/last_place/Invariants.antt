@@ -1,0 +1,9 @@
+use Rattle.std.proofs.Common.{◌≡◌, ◌≤◌, false, drop}
+use Rattle.std.specs.Prelude.{None}
+use Rattle.asm_places.specs.Places.{first_place}
+use Rattle.asm_places.specs.Ranges.{is_past, range_line}
+use Rattle.asm_places.specs.Targets.{last_place}
+use Rattle.asm_places.proofs.targets.last_place.Given as goal
+
+abbrev pub invariant-loop-item : goal.invariant-loop-item
+invariant-loop-item l = record { range : range_line l.place (drop l.item-index l.items) ≡ None; last : last_place l.place (drop l.item-index l.items) ≡ last_place first_place l.items; short : is_past l.place ≡ false; few : l.place.functions ≤ l.item-index }

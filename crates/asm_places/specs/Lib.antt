@@ -1,0 +1,10 @@
+pub mod Functions
+pub mod Laying
+pub mod Maps
+pub mod Names
+pub mod Numbers
+pub mod Places
+pub mod Ranges
+pub mod Sets
+pub mod Symbols
+pub mod Targets

@@ -1,6 +1,0 @@
-use Rattle.std.proofs.Common.{◌≡◌, false, drop}
-use Rattle.rv_asm.specs.Places.{is_open}
-use Rattle.rv_asm.proofs.places.is_open.Given as goal
-
-abbrev pub invariant-loop-item : goal.invariant-loop-item
-invariant-loop-item l = is_open l.inside (drop l.item-index l.items) ≡ is_open false l.items

@@ -1,6 +1,0 @@
-use Rattle.std.proofs.Common.{◌≡◌, ◌+◌, drop}
-use Rattle.rv_asm.proofs.Counting.{Standing}
-use Rattle.rv_asm.proofs.symbols.all_numbers.Given as goal
-
-abbrev pub invariant-loop-symbol : goal.invariant-loop-symbol
-invariant-loop-symbol l = record { left : Standing l.numbers l.number (drop l.symbol-index l.symbols) l.symbols; counted : l.number ≡ l.symbol-index + 1 }
