@@ -1,12 +1,15 @@
--- Which files are accepted, in which order the others are refused, and the image of an accepted file. A file is refused
--- by a rule of the ELF file (ElfRules), by a limit, or by a rule of splitting (Splitting). The limits and the order are
--- this project's own; segments and sections are those of the System V gABI ("Program Header", "Sections").
-use Rattle.std.specs.Prelude.{◌≡◌, ℕ, ◌+◌, ◌-◌, ◌/◌, ◌&&◌, nat_lt, nat_le, max, min, Bool, is_none, List, [], ◌∷◌, ◌++◌, length, map, filter, find, take, drop, replicate, unwrap_or, Option, Some, None, Result, Ok, Err, if◌then◌else◌}
+-- Which files are accepted, in which order the others are refused, and what stands in an accepted file. A file is refused
+-- by a rule of the ELF file (ElfRules, RelocRules), by a limit, by a rule of splitting (Splitting), or by a relocation
+-- record that its bytes do not agree with. The limits and the order are this project's own; segments, sections and records
+-- are those of the System V gABI ("Program Header", "Sections", "Relocation").
+use Rattle.std.specs.Prelude.{◌≡◌, ℕ, ◌+◌, ◌-◌, ◌/◌, ◌&&◌, nat_lt, nat_le, max, min, Bool, false, is_none, List, [], ◌∷◌, ◌++◌, length, map, filter, find, take, drop, replicate, unwrap_or, Option, Some, None, Result, Ok, Err, if◌then◌else◌}
 use Rattle.sh_types.specs.declared.code.Function.{Function}
 use Rattle.sh_types.specs.declared.code.Image.{Image}
 use Rattle.sh_types.specs.declared.code.Region.{Region}
 use Rattle.elf_rules.specs.declared.elf.Head.{Head}
 use Rattle.elf_rules.specs.declared.elf.Segment.{Segment}
+use Rattle.sh_types.specs.declared.relocs.Reloc.{Reloc}
+use Rattle.elf_rules.specs.declared.relocs.Disagrees.{Disagrees}
 use Rattle.elf_rules.specs.declared.refusals.ElfRule.{ElfRule}
 use Rattle.elf_rules.specs.declared.refusals.LimitKind.{LimitKind}
 use Rattle.elf_rules.specs.declared.refusals.LimitKind.TheVariants as kind
@@ -15,7 +18,8 @@ use Rattle.elf_rules.specs.declared.refusals.LoadFault.TheVariants as load
 use Rattle.elf_rules.specs.declared.refusals.SplitFault.{SplitFault}
 use Rattle.elf_rules.specs.declared.refusals.SplitFault.TheVariants as split
 use Rattle.elf_rules.specs.Elf.{number_at, places, entry_of, segments_of, heads_of, is_code, sections_of, no_head, symbols_of}
-use Rattle.elf_rules.specs.ElfRules.{has_memory, first_failing, table_rules, symbol_rules}
+use Rattle.elf_rules.specs.ElfRules.{has_memory, first_failing, table_rules, symbol_rules, reloc_rules}
+use Rattle.elf_rules.specs.Relocs.{width_of, relocs_of, disagreement}
 use Rattle.sh_types.specs.Image.{starts_of, number_of, first_stack}
 use Rattle.sh_types.specs.Limits.{most_code, most_functions, most_mapped}
 use Rattle.elf_rules.specs.Splitting.{split_refusal, functions_of}
@@ -38,44 +42,6 @@ code_by functions = sum_of (map (λ (f : Function). f.size) functions)
 unfoldable pub file_functions : List ℕ → List Function
 file_functions b = functions_of (symbols_of b) (sections_of b) (entry_of b)
 
--- ---- refusals
-
--- a value above its limit
-abbrev pub above : LimitKind → ℕ → ℕ → Option LoadFault
-above kind most value = if nat_lt most value then Some (load.Limit kind value) else None
-
-abbrev pub by_rule : Option ElfRule → Option LoadFault
-by_rule None = None
-by_rule (Some rule) = Some (load.Elf rule)
-
--- splitting does not answer want of memory where it answers a rule
-abbrev pub by_split : Option SplitFault → Option LoadFault
-by_split None = None
-by_split (Some split.NoMemory) = None
-by_split (Some (split.Rule home rule)) = Some (load.Split home rule)
-
-abbrev pub or_later : Option LoadFault → Option LoadFault → Option LoadFault
-or_later None later = later
-or_later (Some refusal) later = Some refusal
-
--- the first refusal: the rules of the file, the mapped bytes, the rules of splitting, the number of
--- functions and the bytes of code
-unfoldable pub refusal_of : List ℕ → Option LoadFault
-refusal_of b =
-    or_later (by_rule (first_failing table_rules b))
-    (or_later (by_rule (first_failing symbol_rules b))
-    (or_later (above kind.Mapped most_mapped (mapped_by (segments_of b)))
-    (or_later (by_split (split_refusal (symbols_of b) (sections_of b) (entry_of b)))
-    (or_later (above kind.Functions most_functions (length (file_functions b)))
-    (above kind.Code most_code (code_by (file_functions b)))))))
-
--- the file is accepted
-abbrev pub is_accepted : List ℕ → Bool
-is_accepted b = is_none (refusal_of b)
-
-abbrev pub Accepts : List ℕ → Type 0
-Accepts b = refusal_of b ≡ None
-
 -- ---- by rising addresses
 
 abbrev pub put_by : {A : Type 0} → (A → ℕ) → A → List A → List A
@@ -93,6 +59,86 @@ filled_in_order b = rising_by (λ (g : Segment). g.start) (filter has_memory (se
 
 unfoldable pub codes_in_order : List ℕ → List Head
 codes_in_order b = rising_by (λ (h : Head). h.start) (filter is_code (heads_of b))
+
+-- ---- the bytes at an address
+
+-- the address lies in the memory of a segment
+abbrev pub is_mapped_at : ℕ → Segment → Bool
+is_mapped_at address g = nat_le g.start address && nat_lt address (g.start + g.size)
+
+-- what stands for a segment where there is none
+abbrev pub no_segment : Segment
+no_segment = record { start = 0; file_at = 0; file_size = 0; size = 0; writable = false }
+
+-- the segment with an address
+abbrev pub segment_with : List Segment → ℕ → Segment
+segment_with segments address = unwrap_or (find (is_mapped_at address) segments) no_segment
+
+-- where the byte of an address stands in the file, by the segment with the address
+abbrev pub mapped_place : List Segment → ℕ → ℕ
+mapped_place segments address = (segment_with segments address).file_at + (address - (segment_with segments address).start)
+
+-- ---- relocation records that do not agree with the bytes
+
+-- the first of two refusals, if there is one
+abbrev pub or_later : Option LoadFault → Option LoadFault → Option LoadFault
+or_later None later = later
+or_later (Some refusal) later = Some refusal
+
+-- the number of the bytes that a record takes at its place
+unfoldable pub number_under : List ℕ → List Segment → Reloc → ℕ
+number_under b segments r = number_at (width_of r.kind) b (mapped_place segments r.place)
+
+-- how a record disagrees with the bytes at its place, as a refusal
+abbrev pub mismatch : Reloc → Option Disagrees → Option LoadFault
+mismatch r None = None
+mismatch r (Some d) = Some (load.Mismatch r.place r.kind d.found d.expected)
+
+-- the first of some records that disagrees, by all records of the file
+abbrev pub first_mismatch : List ℕ → List Segment → List Reloc → List Reloc → Option LoadFault
+first_mismatch b segments all [] = None
+first_mismatch b segments all (r ∷ rs) =
+    or_later (mismatch r (disagreement all r (number_under b segments r))) (first_mismatch b segments all rs)
+
+-- the first record of the file that disagrees
+unfoldable pub mismatch_of : List ℕ → Option LoadFault
+mismatch_of b = first_mismatch b (filled_in_order b) (relocs_of b) (relocs_of b)
+
+-- ---- refusals
+
+-- a value above its limit
+abbrev pub above : LimitKind → ℕ → ℕ → Option LoadFault
+above kind most value = if nat_lt most value then Some (load.Limit kind value) else None
+
+abbrev pub by_rule : Option ElfRule → Option LoadFault
+by_rule None = None
+by_rule (Some rule) = Some (load.Elf rule)
+
+-- splitting does not answer want of memory where it answers a rule
+abbrev pub by_split : Option SplitFault → Option LoadFault
+by_split None = None
+by_split (Some split.NoMemory) = None
+by_split (Some (split.Rule home rule)) = Some (load.Split home rule)
+
+-- the first refusal: the rules on the tables, on symbols and on relocation records, the mapped bytes, the rules of
+-- splitting, the number of functions, the bytes of code, and the first record that disagrees with its bytes
+unfoldable pub refusal_of : List ℕ → Option LoadFault
+refusal_of b =
+    or_later (by_rule (first_failing table_rules b))
+    (or_later (by_rule (first_failing symbol_rules b))
+    (or_later (by_rule (first_failing reloc_rules b))
+    (or_later (above kind.Mapped most_mapped (mapped_by (segments_of b)))
+    (or_later (by_split (split_refusal (symbols_of b) (sections_of b) (entry_of b)))
+    (or_later (above kind.Functions most_functions (length (file_functions b)))
+    (or_later (above kind.Code most_code (code_by (file_functions b)))
+    (mismatch_of b)))))))
+
+-- the file is accepted
+abbrev pub is_accepted : List ℕ → Bool
+is_accepted b = is_none (refusal_of b)
+
+abbrev pub Accepts : List ℕ → Type 0
+Accepts b = refusal_of b ≡ None
 
 -- ---- words
 
@@ -150,7 +196,7 @@ file_regions b = data_regions b (codes_in_order b) (filled_in_order b) ++ first_
 abbrev pub entry_number : List ℕ → ℕ
 entry_number b = unwrap_or (number_of (starts_of (file_functions b)) (entry_of b)) 0
 
--- the image of an accepted file: functions, words and readable bytes; what binds code to data is not read
+-- what stands in an accepted file: functions, words and readable bytes; relocation records bind nothing here
 unfoldable pub loaded_image : List ℕ → Image
 loaded_image b =
     record {
@@ -172,3 +218,4 @@ Loads (Err load.NoMemory) refusal value = Unit {0}
 Loads (Err (load.Elf rule)) refusal value = refusal ≡ Some (load.Elf rule)
 Loads (Err (load.Limit kind most)) refusal value = refusal ≡ Some (load.Limit kind most)
 Loads (Err (load.Split home rule)) refusal value = refusal ≡ Some (load.Split home rule)
+Loads (Err (load.Mismatch place kind found expected)) refusal value = refusal ≡ Some (load.Mismatch place kind found expected)

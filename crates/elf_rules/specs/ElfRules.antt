@@ -1,6 +1,7 @@
 -- Where each rule on a file fails, a row of the table for each, and which rule is answered. The fields are those of the
 -- System V gABI ("ELF Header", "Program Header", "Section Header", "Symbol Table", "String Table") and of the RISC-V
--- psABI ("File Header"). Sums are whole numbers. The rules and their order are this project's own.
+-- psABI ("File Header"). Sums are whole numbers. The rules and their order are this project's own; those on relocation
+-- records stand in RelocRules.
 use Rattle.std.specs.Prelude.{◌≡◌, ℕ, ◌+◌, ◌*◌, ◌%◌, ◌==◌, ◌&&◌, ◌||◌, nat_lt, nat_le, not, Bool, true, List, [], ◌∷◌, ◌++◌, length, filter, map, Option, Some, None, Result, Ok, Err, if◌then◌else◌}
 use Rattle.std.specs.List.{list_any}
 use Rattle.elf_rules.specs.declared.elf.Elf.{Elf}
@@ -14,6 +15,7 @@ use Rattle.elf_rules.specs.declared.refusals.ElfFault.{ElfFault}
 use Rattle.elf_rules.specs.declared.refusals.ElfFault.TheVariants.{NoMemory, Rule}
 use Rattle.elf_rules.specs.declared.refusals.ElfRule.{ElfRule}
 use Rattle.elf_rules.specs.declared.refusals.ElfRule.TheVariants as rules
+use Rattle.elf_rules.specs.RelocRules.{bad_total, bad_records, bad_undefined, bad_kinds}
 use Rattle.elf_rules.specs.Spans.{any_share, head_span}
 use Rattle.elf_rules.specs.Elf.{lies_in, has, magic_of, class_of, order_of, ident_version_of, type_of, machine_of, version_of, entry_of, program_at, section_at, flags_of, program_count, section_count, program_size, section_size, names_of, programs_of, heads_of, segments_of, is_code, sections_of, sole_table, string_head, raws_of, symbol_names, section_names, ends}
 use Rattle.sh_types.specs.Limits.{image_end}
@@ -125,6 +127,10 @@ fails rules.Symbols b = bad_table b (heads_of b) (sole_table b)
 fails rules.Start b = bad_start (entry_of b) (sections_of b)
 fails rules.NameAt b = bad_names (symbol_names b) (section_names b) (raws_of b) (heads_of b)
 fails rules.SectionAt b = list_any (bad_section (section_count b)) (raws_of b)
+fails rules.Total b = bad_total b
+fails rules.Records b = bad_records b
+fails rules.Undefined b = bad_undefined b
+fails rules.Kind b = bad_kinds b
 
 -- ---- their order
 
@@ -145,6 +151,10 @@ table_rules = header_rules ++ rules.Dynamic ∷ rules.Segment ∷ rules.Code ∷
 -- the rules on symbols and names
 abbrev pub symbol_rules : List ElfRule
 symbol_rules = rules.Symbols ∷ rules.Start ∷ rules.NameAt ∷ rules.SectionAt ∷ []
+
+-- the rules on relocation records
+abbrev pub reloc_rules : List ElfRule
+reloc_rules = rules.Total ∷ rules.Records ∷ rules.Undefined ∷ rules.Kind ∷ []
 
 -- ---- what is read
 

@@ -2,6 +2,8 @@ pub mod Accepted
 pub mod Coded
 pub mod Elf
 pub mod ElfRules
+pub mod RelocKinds
+pub mod RelocRules
+pub mod Relocs
 pub mod Spans
 pub mod Splitting
-pub mod Thin

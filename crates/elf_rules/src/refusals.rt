@@ -7,7 +7,7 @@ ghost use Rattle.elf_rules.specs.declared.refusals.LoadFault.TheVariants as load
 use sh_types::NoMemory;
 use std::alloc::{AllocError, AllocFailed};
 
-/// The rules on a file's headers, tables and symbols, in the order in which they are tested.
+/// The rules on a file's headers, tables, symbols and relocation records, in the order in which they are tested.
 #[derive(Clone, Copy, Debug, PartialEq, Eq)]
 pub enum ElfRule {
     Short,
@@ -26,6 +26,10 @@ pub enum ElfRule {
     Start,
     NameAt,
     SectionAt,
+    Total,
+    Records,
+    Undefined,
+    Kind,
 }
 
 /// Why tables are not read: memory was refused, or this is the first rule that fails.
@@ -91,14 +95,28 @@ pub enum LimitKind {
     Code,
 }
 
-/// Why a file has no image: memory was refused, a rule on the file fails, a value is above its limit, or a function
-/// is refused.
+/// Why a file has no image: memory was refused, a rule on the file fails, a value is above its limit, a function is
+/// refused, or the bytes at the place of a relocation record of this kind have other bits than the record asks for.
 #[derive(Clone, Copy, Debug, PartialEq, Eq)]
 pub enum LoadFault {
     NoMemory,
-    Elf { rule: ElfRule },
-    Limit { kind: LimitKind, value: u64 },
-    Split { home: u64, rule: SplitRule },
+    Elf {
+        rule: ElfRule,
+    },
+    Limit {
+        kind: LimitKind,
+        value: u64,
+    },
+    Split {
+        home: u64,
+        rule: SplitRule,
+    },
+    Mismatch {
+        place: u64,
+        kind: u32,
+        found: u64,
+        expected: u64,
+    },
 }
 
 impl From<AllocError> for LoadFault {
