@@ -2,4 +2,3 @@ pub mod Ending
 pub mod Inside
 pub mod Lengths
 pub mod Naming
-pub mod Reading

@@ -1,12 +1,12 @@
 //! Reads the symbols of a file.
 ghost use Rattle.std.specs.Prelude.{◌≡◌, IfOk, false, Err};
-ghost use Rattle.elf_rules.specs.Elf.{sole_table, table_of, raws_of, symbol_names, section_names, symbols_of};
+ghost use Rattle.elf_rules.specs.Elf.{sole_table, table_of, raws_of, symbol_names, symbols_of};
 ghost use Rattle.elf_rules.specs.ElfRules.{Reads, IsReadFrom, fails, first_failing, symbol_rules};
 
 use crate::names::named;
 use crate::rules::{any_bad_section, bad_names, bad_start, bad_table};
-use crate::strings::part_of;
-use crate::table::{entries, head_or_none, no_head, only, symbol_tables};
+use crate::table::{entries, only, symbol_tables};
+use elf_read::{head_or_none, no_head, part_of, section_names};
 use elf_rules::{Elf, ElfFault, ElfRule, Head, RawSymbol};
 use sh_types::{Items, Symbol};
 use std::alloc::{AllocError, Global};
@@ -68,15 +68,6 @@ fn symbol_strings<'a>(elf: &Elf, bytes: &'a [u8], table: &Head) -> &'a [u8]
     part_of(bytes, &head)
 }
 
-/// The string table of the sections.
-fn section_strings<'a>(elf: &Elf, bytes: &'a [u8]) -> &'a [u8]
-    requires { IsReadFrom elf.now bytes.now }
-    ensures { result.now ≡ section_names bytes.now }
-{
-    let head = head_or_none(elf.heads.as_slice(), elf.names);
-    part_of(bytes, &head)
-}
-
 #[tactic(auto, unfolding(elf_rules::specs::ElfRules::fails))]
 fn fails_names(elf: &Elf, bytes: &[u8], names: &[u8], raws: &[RawSymbol]) -> bool
     requires read { IsReadFrom elf.now bytes.now }
@@ -84,7 +75,7 @@ fn fails_names(elf: &Elf, bytes: &[u8], names: &[u8], raws: &[RawSymbol]) -> boo
     requires raws { raws.now ≡ raws_of bytes.now }
     ensures { result ≡ fails ElfRule.NameAt bytes.now }
 {
-    let section_names = section_strings(elf, bytes);
+    let section_names = section_names(elf, bytes);
     bad_names(names, section_names, raws, elf.heads.as_slice())
 }
 

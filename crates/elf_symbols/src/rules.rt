@@ -7,8 +7,8 @@ ghost use Rattle.elf_rules.specs.Elf.{ends};
 ghost use Rattle.elf_rules.specs.ElfRules as rule;
 
 use crate::strings::last_end;
-use crate::table::{ENTRY_SIZE, head_or_none};
-use elf_read::lies_in;
+use crate::table::ENTRY_SIZE;
+use elf_read::{head_or_none, lies_in};
 use elf_rules::{Head, RawSymbol, runs_at};
 use sh_types::Section;
 

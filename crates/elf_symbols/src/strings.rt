@@ -4,23 +4,9 @@ ghost use Rattle.std.specs.List.Sorted.{IsNonDecreasingBy};
 ghost use Rattle.elf_rules.specs.Elf as elf;
 ghost use Rattle.elf_symbols.specs.Zeros.{zero_end, zeros_from, first_from};
 
-use elf_read::lies_in;
-use elf_rules::Head;
 use sh_types::{StringTable, SymbolName};
 use std::alloc::{AllocError, Global};
 use std::marker::Model;
-
-/// The bytes of a section, none where they are not inside the file.
-#[tactic(auto, unfolding(elf_rules::specs::Elf::part_of))]
-pub fn part_of<'a>(bytes: &'a [u8], head: &Head) -> &'a [u8]
-    ensures { result.now ≡ elf.part_of bytes.now head.now }
-{
-    if lies_in(bytes, head.file_at, head.size) {
-        let start = head.file_at as usize;
-        return &bytes[start..start + head.size as usize];
-    }
-    &bytes[..0]
-}
 
 fn end_with(end: usize, place: usize, byte: u8) -> usize
     requires { place < usize.MAX }

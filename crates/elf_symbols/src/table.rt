@@ -1,5 +1,5 @@
 //! The symbol table of a file, and its entries.
-ghost use Rattle.std.specs.Prelude.{◌≡◌, ◌+◌, ◌≤◌, ◌/◌, length, filter, get_or, map, IfOk};
+ghost use Rattle.std.specs.Prelude.{◌≡◌, ◌+◌, ◌≤◌, ◌/◌, length, filter, map, IfOk};
 ghost use Rattle.elf_rules.specs.Elf as elf;
 
 use elf_read::raw_symbol;
@@ -31,33 +31,6 @@ pub fn only(heads: &[Head]) -> Option<Head>
     match heads {
         [head] => Some(*head),
         _ => None,
-    }
-}
-
-/// A header by its number, and one that is all zeros where there is none.
-pub fn head_or_none(heads: &[Head], number: u32) -> Head
-    ensures { result ≡ get_or heads.now number elf.no_head }
-{
-    match heads.get(number as usize) {
-        Some(head) => *head,
-        None => no_head(),
-    }
-}
-
-/// What stands for a header where there is none.
-pub fn no_head() -> Head
-    ensures { result ≡ elf.no_head }
-{
-    Head {
-        name: 0,
-        kind: 0,
-        flags: 0,
-        start: 0,
-        file_at: 0,
-        size: 0,
-        link: 0,
-        info: 0,
-        each: 0,
     }
 }
 

@@ -1,6 +1,6 @@
 use Rattle.std.proofs.Common.{◌/◌}
 use Rattle.elf_rules.specs.Elf.{raw_symbol}
-use Rattle.elf_symbols.proofs.Reading.{read_more, fits_more}
+use Rattle.elf_read.proofs.Places.{read_more, fits_more}
 use Rattle.elf_symbols.proofs.table.entries.Goals as goal
 
 pub loop-preserved : goal.loop-preserved
