@@ -1,0 +1,4 @@
+pub mod Binding
+pub mod Bound
+pub mod Refusals
+pub mod Thin

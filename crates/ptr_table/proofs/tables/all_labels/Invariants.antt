@@ -1,0 +1,6 @@
+use Rattle.std.proofs.Common.{◌≡◌, ◌++◌, drop}
+use Rattle.ptr_table.specs.Taken.{labels_by}
+use Rattle.ptr_table.proofs.tables.all_labels.Given as goal
+
+abbrev pub invariant-loop-function : goal.invariant-loop-function
+invariant-loop-function l = record { read : l.found.items ++ labels_by l.number (drop l.function-index l.functions) l.taken ≡ labels_by 0 l.functions l.taken; number : l.number ≡ l.function-index }
