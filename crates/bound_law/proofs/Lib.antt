@@ -1,0 +1,5 @@
+pub mod Coded
+pub mod Rows
+pub mod Sited
+pub mod Targets
+pub mod Tokens

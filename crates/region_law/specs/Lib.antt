@@ -1,0 +1,2 @@
+pub mod BoundReadable
+pub mod LiteralExample
