@@ -14,15 +14,15 @@ use Rattle.elf_rules.specs.declared.refusals.LoadFault.{LoadFault}
 use Rattle.elf_rules.specs.declared.refusals.LoadFault.TheVariants as load
 use Rattle.elf_rules.specs.Accepted.{Accepts, above, by_rule, mapped_by, or_later}
 use Rattle.elf_rules.specs.Elf.{segments_of}
-use Rattle.elf_rules.specs.ElfRules.{Reads, elf_of, first_failing, symbol_rules, table_rules}
-use Rattle.guest_image.specs.Stages.{symbol_refusal}
+use Rattle.elf_rules.specs.ElfRules.{Reads, elf_of, first_failing, reloc_rules, symbol_rules, table_rules}
+use Rattle.guest_image.specs.Stages.{later_refusal}
 use Rattle.guest_image.proofs.Refusing.{whole_refusal}
 
 both_none : (a later : Option LoadFault) → or_later a later ≡ None → (a ≡ None) × (later ≡ None)
 both_none None later h = (refl, h)
 both_none (Some fault) later h = absurd (cc)
 
-no_rule : (rule : Option ElfRule) → by_rule rule ≡ None → rule ≡ None
+pub no_rule : (rule : Option ElfRule) → by_rule rule ≡ None → rule ≡ None
 no_rule None h = refl
 no_rule (Some rule) h = absurd (cc)
 
@@ -35,22 +35,27 @@ within kind most value h = elim (cases_Bool (nat_lt most value)) [
   | inr f ↦ grind (arith, nat_tests, f)
 ]
 
-parts : (b : List ℕ) → Accepts b → (by_rule (first_failing table_rules b) ≡ None) × (symbol_refusal b ≡ None)
-parts b accepts = both_none (by_rule (first_failing table_rules b)) (symbol_refusal b) (sym (whole_refusal b) ∙ accepts)
+record AreParts (b : List ℕ) : Type 0 where
+  tables : first_failing table_rules b ≡ None
+  later : later_refusal b ≡ None
 
-tables_hold : (b : List ℕ) → Accepts b → first_failing table_rules b ≡ None
-tables_hold b accepts = no_rule (first_failing table_rules b) (parts b accepts).0
+parts : (b : List ℕ) → Accepts b → AreParts b
+parts b accepts =
+    let one = both_none (by_rule (first_failing table_rules b)) _ (sym (whole_refusal b) ∙ accepts) in
+    let two = both_none (by_rule (first_failing symbol_rules b)) _ one.1 in
+    let three = both_none (by_rule (first_failing reloc_rules b)) (later_refusal b) two.1 in
+    record { tables = no_rule (first_failing table_rules b) one.0; later = three.1 }
 
-few_mapped : (b : List ℕ) → symbol_refusal b ≡ None → mapped_by (segments_of b) ≤ 67108864
-unfolding symbol_refusal
-few_mapped b h = within kind.Mapped 67108864 (mapped_by (segments_of b)) (both_none _ _ (both_none (by_rule (first_failing symbol_rules b)) _ h).1).0
+few_mapped : (b : List ℕ) → later_refusal b ≡ None → mapped_by (segments_of b) ≤ 67108864
+unfolding later_refusal
+few_mapped b h = within kind.Mapped 67108864 (mapped_by (segments_of b)) (both_none _ _ h).0
 
 pub memory_fits : (b : List ℕ) (segments : List Segment) → segments ≡ segments_of b → Accepts b → mapped_by segments < 2 ^ 64
-memory_fits b segments e accepts = let few = few_mapped b (parts b accepts).1 in rw e (omega (arith, few))
+memory_fits b segments e accepts = let few = few_mapped b (parts b accepts).later in rw e (omega (arith, few))
 
 -- reading the tables of an accepted file finds no rule that fails
 pub no_rule_fails : (b : List ℕ) (fault : ElfFault) (rule : ElfRule) → Accepts b → fault ≡ Rule rule → Reads {A = Elf} (Err fault) (first_failing table_rules b) (elf_of b) → ⊥
 no_rule_fails b fault rule accepts e reads =
-    let hold = tables_hold b accepts in
+    let hold = (parts b accepts).tables in
     let fails : first_failing table_rules b ≡ Some rule = subst (λ (f : ElfFault). Reads {A = Elf} (Err f) (first_failing table_rules b) (elf_of b)) e reads in
     absurd (cc)

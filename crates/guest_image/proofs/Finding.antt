@@ -1,78 +1,14 @@
--- Sections in order: the one that an address lies in, and those that start in a range.
+-- Sections in order: those that start in a range.
 use Rattle.std.proofs.Common.{◌≡◌, ℕ, zero, suc, ◌+◌, ◌-◌, ◌<◌, ◌≤◌, Bool, true, false, cond, ◌&&◌, All, List, [], ◌∷◌, length, get_or, take, drop, refl, sym, ap, ◌∙◌, arith, inl, inr}
-use Rattle.std.specs.Prelude.{nat_le, nat_lt, filter, find, unwrap_or, Some, None}
-use Rattle.std.specs.List.Sorted.{IsNonDecreasingBy}
-use Rattle.std.proofs.lemmas.Bool.{cases_Bool, cases_lt, false≢true}
+use Rattle.std.specs.Prelude.{nat_le, nat_lt, filter}
+use Rattle.std.proofs.lemmas.Bool.{cases_lt}
 use Rattle.std.proofs.lemmas.Bool.Decides.{nat_tests}
 use Rattle.std.proofs.lemmas.List.Elements.{All-weaker, filter_passes}
 use Rattle.elf_rules.specs.declared.elf.Head.{Head}
 use Rattle.elf_rules.specs.declared.elf.Segment.{Segment}
-use Rattle.elf_rules.specs.Accepted.{codes_within, is_inside, section_with}
+use Rattle.elf_rules.specs.Accepted.{codes_within}
 use Rattle.elf_rules.specs.Elf.{no_head}
-use Rattle.guest_image.specs.Order.{AreApart, StartsFrom}
-
--- ---- sections that are apart rise
-
-pub rise : (codes : List Head) → AreApart codes → IsNonDecreasingBy (λ (h : Head). h.start) codes
-rise codes apart i j d le lt = elim (cases_lt i j) [
-  | inl l ↦ let h = apart i j d l lt in omega arith
-  | inr g ↦ let e : i ≡ j = omega arith in let same : (get_or codes i d).start ≡ (get_or codes j d).start = ap (λ k. (get_or codes k d).start) e in omega arith
-]
-
--- ---- the section that an address lies in
-
--- so many sections start at or below the address
-abbrev pub StartBelow : List Head → ℕ → ℕ → Type 0
-StartBelow codes address i = (k : ℕ) (d : Head) → k < i → (get_or codes k d).start ≤ address
-
--- the others start above it
-abbrev pub StartAbove : List Head → ℕ → ℕ → Type 0
-StartAbove codes address i = (k : ℕ) (d : Head) → i ≤ k → k < length codes → address < (get_or codes k d).start
-
-above_not : (address : ℕ) (h : Head) → address < h.start → is_inside address h ≡ false
-above_not address h lt = grind (arith, nat_tests)
-
-behind_not : (address : ℕ) (h : Head) → h.start + h.size ≤ address → is_inside address h ≡ false
-behind_not address h le = grind (arith, nat_tests)
-
-none_above : (address : ℕ) (codes : List Head) → StartAbove codes address 0 → find (is_inside address) codes ≡ None
-none_above address [] a = refl
-none_above address (h ∷ hs) a =
-    ap (λ b. cond b (Some h) (find (is_inside address) hs)) (above_not address h (a 0 h (omega arith) (omega arith)))
-    ∙ none_above address hs (λ k d le lt. a (suc k) d (omega arith) (omega arith))
-
-nothing_inside : (address : ℕ) → is_inside address no_head ≡ false
-nothing_inside address = grind (arith, nat_tests)
-
--- an address that lies in a section lies at or above the start of one
-pub some_below : (address : ℕ) (codes : List Head) (i : ℕ) → StartAbove codes address i → is_inside address (section_with codes address) ≡ true → 0 < i
-some_below address codes zero above found =
-    absurd (false≢true (sym (nothing_inside address) ∙ sym (ap (λ o. is_inside address (unwrap_or o no_head)) (none_above address codes above)) ∙ found))
-some_below address codes (suc i) above found = omega arith
-
--- it lies in the last that starts at or below it
-pub section_is : (address : ℕ) (codes : List Head) (i : ℕ) (d : Head) → AreApart codes → i < length codes → StartBelow codes address (i + 1) → StartAbove codes address (i + 1) → is_inside address (section_with codes address) ≡ true → section_with codes address ≡ get_or codes i d
-section_is address [] i d apart lt below above found = absurd (omega (arith, lt))
-section_is address (h ∷ hs) zero d apart lt below above found =
-    elim (cases_Bool (is_inside address h)) [
-      | inl t ↦ ap (λ b. unwrap_or (cond b (Some h) (find (is_inside address) hs)) no_head) t
-      | inr f ↦
-          let none : section_with (h ∷ hs) address ≡ no_head =
-          ap (λ b. unwrap_or (cond b (Some h) (find (is_inside address) hs)) no_head) f
-          ∙ ap (λ o. unwrap_or o no_head) (none_above address hs (λ k d le lt. above (suc k) d (omega arith) (omega arith))) in
-          absurd (false≢true (sym (nothing_inside address) ∙ sym (ap (is_inside address) none) ∙ found))
-    ]
-section_is address (h ∷ []) (suc i) d apart lt below above found = absurd (omega (arith, lt))
-section_is address (h ∷ x ∷ hs) (suc i) d apart lt below above found =
-    let starts = below 1 x (omega arith) in
-    let ends = apart 0 1 x (omega arith) (omega arith) in
-    let out = behind_not address h (omega (arith, starts, ends)) in
-    let same : section_with (h ∷ x ∷ hs) address ≡ section_with (x ∷ hs) address =
-    ap (λ b. unwrap_or (cond b (Some h) (find (is_inside address) (x ∷ hs))) no_head) out in
-    same
-    ∙ section_is address (x ∷ hs) i d (λ j k d l m. apart (suc j) (suc k) d (omega arith) (omega arith)) (omega (arith, lt))
-    (λ k d l. below (suc k) d (omega arith)) (λ k d l m. above (suc k) d (omega arith) (omega arith))
-    (sym (ap (is_inside address) same) ∙ found)
+use Rattle.guest_image.specs.Order.{StartsFrom}
 
 -- ---- the sections that start in a range
 

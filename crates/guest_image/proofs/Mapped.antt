@@ -1,11 +1,12 @@
 -- The mapped bytes are few enough to be counted.
-use Rattle.std.proofs.Common.{◌≡◌, ℕ, zero, suc, ◌+◌, ◌*◌, ◌^◌, ◌<◌, ◌≤◌, List, [], ◌∷◌, length, get_or, All, refl, ◌∙◌, arith, inl, inr}
+use Rattle.std.proofs.Common.{◌≡◌, ℕ, ◌+◌, ◌*◌, ◌^◌, ◌<◌, ◌≤◌, List, [], ◌∷◌, length, get_or, All, ◌∙◌, arith, inl, inr}
 use Rattle.std.specs.Prelude.{◌==◌}
 use Rattle.std.specs.List.{AllByRecursion}
 use Rattle.std.proofs.lemmas.List.{length-map}
 use Rattle.std.proofs.lemmas.List.Elements.{recursion_from_All}
 use Rattle.std.proofs.lemmas.Bool.{cases_Bool}
 use Rattle.load_law.specs.Placed.{IsPlaced}
+use Rattle.guest_image.proofs.Places.{length-places}
 use Rattle.elf_rules.specs.declared.elf.Program.{Program}
 use Rattle.elf_rules.specs.declared.elf.Segment.{Segment}
 use Rattle.elf_rules.specs.Accepted.{mapped_by}
@@ -17,10 +18,6 @@ AreBytes b = (i : ℕ) → get_or b i 0 < 2 ^ 8
 below_two : (b : List ℕ) (place : ℕ) → AreBytes b → number_at 2 b place < 2 ^ 16
 unfolding number_at
 below_two b place small = omega (arith, small place, small (place + 1))
-
-length-places : (step place n : ℕ) → length (places step place n) ≡ n
-length-places step place zero = refl
-length-places step place (suc n) = grind (arith, length-places step (place + step) n)
 
 length-programs : (b : List ℕ) → length (programs_of b) ≡ program_count b
 unfolding programs_of

@@ -12,9 +12,10 @@ use Rattle.elf_rules.specs.declared.refusals.LoadFault.TheVariants as load
 use Rattle.elf_rules.specs.declared.refusals.SplitFault.{SplitFault}
 use Rattle.elf_rules.specs.declared.refusals.SplitFault.TheVariants as split
 use Rattle.guest_image.specs.declared.accepted.AcceptedFile.{AcceptedFile}
-use Rattle.elf_rules.specs.Accepted.{above, by_rule, by_split, code_by, mapped_by, or_later}
+use Rattle.elf_rules.specs.Accepted.{above, by_split, code_by, mapped_by, mismatch_of, or_later}
 use Rattle.elf_rules.specs.Elf.{entry_of, sections_of, segments_of, symbols_of}
-use Rattle.elf_rules.specs.ElfRules.{IsReadFrom, first_failing, symbol_rules}
+use Rattle.elf_rules.specs.ElfRules.{IsReadFrom, first_failing, reloc_rules}
+use Rattle.elf_rules.specs.Relocs.{relocs_of}
 use Rattle.elf_rules.specs.Splitting.{split_refusal, functions_of}
 
 -- ---- faults of the layers below
@@ -35,6 +36,7 @@ Stops load.NoMemory refusal = Unit {0}
 Stops (load.Elf rule) refusal = refusal ≡ Some (load.Elf rule)
 Stops (load.Limit kind value) refusal = refusal ≡ Some (load.Limit kind value)
 Stops (load.Split home rule) refusal = refusal ≡ Some (load.Split home rule)
+Stops (load.Mismatch place kind found expected) refusal = refusal ≡ Some (load.Mismatch place kind found expected)
 
 -- nothing is refused and P is true of the value, or this is refused
 abbrev pub Passes : {A : Type 0} → Result A LoadFault → Option LoadFault → (A → Type 0) → Type 0
@@ -52,11 +54,11 @@ unfoldable pub function_refusal : List Symbol → List Section → ℕ → Optio
 function_refusal symbols sections entry =
     or_later (by_split (split_refusal symbols sections entry)) (limit_refusal (functions_of symbols sections entry))
 
--- by the rules on symbols, and what follows them
-unfoldable pub symbol_refusal : List ℕ → Option LoadFault
-symbol_refusal b =
-    or_later (by_rule (first_failing symbol_rules b))
-    (or_later (above kind.Mapped most_mapped (mapped_by (segments_of b))) (function_refusal (symbols_of b) (sections_of b) (entry_of b)))
+-- by the limit on memory, and what follows it
+unfoldable pub later_refusal : List ℕ → Option LoadFault
+later_refusal b =
+    or_later (above kind.Mapped most_mapped (mapped_by (segments_of b)))
+    (or_later (function_refusal (symbols_of b) (sections_of b) (entry_of b)) (mismatch_of b))
 
 -- ---- what is accepted
 
@@ -66,7 +68,9 @@ pub record AreFunctions (symbols : List Symbol) (sections : List Section) (entry
   pub are : functions ≡ functions_of symbols sections entry
   pub few : length functions ≤ most_functions
 
--- these are the tables and the functions of the file
+-- these are the tables, the functions and the records of the file, and no rule on records fails
 pub record IsAccepted (b : List ℕ) (file : AcceptedFile) : Type 0 where
   pub tables : IsReadFrom file.elf b
   pub functions : AreFunctions (symbols_of b) (sections_of b) (entry_of b) file.functions
+  pub relocs : file.relocs ≡ relocs_of b
+  pub recorded : first_failing reloc_rules b ≡ None

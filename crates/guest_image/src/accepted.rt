@@ -4,24 +4,28 @@ ghost use Rattle.std.specs.List.{list_any};
 ghost use Rattle.sh_types.specs.Limits.{most_functions};
 ghost use Rattle.elf_rules.specs.Accepted.{by_rule, by_split, refusal_of};
 ghost use Rattle.elf_rules.specs.Elf.{entry_of, sections_of, symbols_of};
-ghost use Rattle.elf_rules.specs.ElfRules.{IsReadFrom, first_failing, runs_at, symbol_rules, table_rules};
+ghost use Rattle.elf_rules.specs.ElfRules.{IsReadFrom, first_failing, reloc_rules, runs_at, symbol_rules, table_rules};
+ghost use Rattle.elf_rules.specs.Relocs.{relocs_of};
 ghost use Rattle.elf_rules.specs.Splitting.{IsBounded, functions_of, split_refusal};
-ghost use Rattle.guest_image.specs.Stages.{AreFunctions, IsAccepted, Passes, elf_fault, function_refusal, limit_refusal, split_fault, symbol_refusal};
+ghost use Rattle.guest_image.specs.Stages.{AreFunctions, IsAccepted, Passes, elf_fault, function_refusal, later_refusal, limit_refusal, split_fault};
 
+use crate::agreeing::agreeing;
 use crate::limits::{limited_code, limited_functions, limited_memory};
 use elf_read::read_elf;
 use elf_rules::{Elf, ElfFault, LoadFault, SplitFault};
 use elf_symbols::symbols;
 use fn_split::split;
 use load_law::{entries_lie_in_code, sections_are_bounded, segments_lie_in_files};
-use sh_types::{Function, Items, Symbol};
+use rv_relocs::relocs;
+use sh_types::{Function, Items, Reloc, Symbol};
 use std::alloc::Global;
 
-/// The tables and the functions of an accepted file.
+/// The tables, the functions and the records of an accepted file.
 #[derive(Drop)]
 pub struct AcceptedFile {
     pub elf: Elf,
     pub functions: Items<Function>,
+    pub relocs: Items<Reloc>,
 }
 
 fn elf_fault(fault: ElfFault) -> LoadFault
@@ -55,6 +59,20 @@ fn named_symbols(alloc: Global, bytes: &[u8], elf: &Elf) -> Result<Items<Symbol>
     ensures { Passes result (by_rule (first_failing symbol_rules bytes.now)) (λ found. found ≡ symbols_of bytes.now) }
 {
     symbols(alloc, elf, bytes).map_err(elf_fault)
+}
+
+/// The records, or what the rules on them refuse.
+fn records(
+    alloc: Global,
+    bytes: &[u8],
+    elf: &Elf,
+    symbols: &Items<Symbol>,
+) -> Result<Items<Reloc>, LoadFault>
+    requires read { IsReadFrom elf.now bytes.now }
+    requires symbols { symbols.now ≡ symbols_of bytes.now }
+    ensures { Passes result (by_rule (first_failing reloc_rules bytes.now)) (λ found. found ≡ relocs_of bytes.now) }
+{
+    relocs(alloc, elf, bytes, symbols).map_err(elf_fault)
 }
 
 /// The functions, or the one that splitting refuses.
@@ -95,25 +113,57 @@ fn few_functions(
     Ok(functions)
 }
 
-/// The functions of a file whose tables hold, or the first refusal behind those of the tables.
-#[tactic(auto, unfolding(crate::specs::Stages::symbol_refusal))]
-fn functions_of(alloc: Global, bytes: &[u8], elf: &Elf) -> Result<Items<Function>, LoadFault>
-    requires { IsReadFrom elf.now bytes.now }
-    ensures { Passes result (symbol_refusal bytes.now) (AreFunctions (symbols_of bytes.now) (sections_of bytes.now) (entry_of bytes.now)) }
+/// The functions of a file whose symbols hold, or what splitting and the limits on functions refuse.
+fn file_functions(
+    alloc: Global,
+    bytes: &[u8],
+    elf: &Elf,
+    symbols: &Items<Symbol>,
+) -> Result<Items<Function>, LoadFault>
+    requires read { IsReadFrom elf.now bytes.now }
+    requires symbols { symbols.now ≡ symbols_of bytes.now }
+    requires started { first_failing symbol_rules bytes.now ≡ None }
+    ensures { Passes result (function_refusal (symbols_of bytes.now) (sections_of bytes.now) (entry_of bytes.now)) (AreFunctions (symbols_of bytes.now) (sections_of bytes.now) (entry_of bytes.now)) }
 {
-    segments_lie_in_files();
     sections_are_bounded();
     entries_lie_in_code();
-    let symbols = named_symbols(alloc, bytes, elf)?;
-    limited_memory(elf.segments.as_slice())?;
-    few_functions(alloc, elf, &symbols)
+    few_functions(alloc, elf, symbols)
 }
 
-/// The tables and functions of an accepted file, or the first refusal.
+/// The functions of a file whose records hold, or the first refusal behind those of the rules on records.
+#[tactic(auto, unfolding(crate::specs::Stages::later_refusal))]
+fn functions_of(
+    alloc: Global,
+    bytes: &[u8],
+    elf: &Elf,
+    symbols: &Items<Symbol>,
+    relocs: &Items<Reloc>,
+) -> Result<Items<Function>, LoadFault>
+    requires read { IsReadFrom elf.now bytes.now }
+    requires symbols { symbols.now ≡ symbols_of bytes.now }
+    requires relocs { relocs.now ≡ relocs_of bytes.now }
+    requires started { first_failing symbol_rules bytes.now ≡ None }
+    requires recorded { first_failing reloc_rules bytes.now ≡ None }
+    ensures { Passes result (later_refusal bytes.now) (AreFunctions (symbols_of bytes.now) (sections_of bytes.now) (entry_of bytes.now)) }
+{
+    segments_lie_in_files();
+    limited_memory(elf.segments.as_slice())?;
+    let functions = file_functions(alloc, bytes, elf, symbols)?;
+    agreeing(alloc, bytes, elf, relocs)?;
+    Ok(functions)
+}
+
+/// The tables, functions and records of an accepted file, or the first refusal.
 pub fn accepted(alloc: Global, bytes: &[u8]) -> Result<AcceptedFile, LoadFault>
     ensures { Passes result (refusal_of bytes.now) (IsAccepted bytes.now) }
 {
     let elf = tables(alloc, bytes)?;
-    let functions = functions_of(alloc, bytes, &elf)?;
-    Ok(AcceptedFile { elf, functions })
+    let symbols = named_symbols(alloc, bytes, &elf)?;
+    let relocs = records(alloc, bytes, &elf, &symbols)?;
+    let functions = functions_of(alloc, bytes, &elf, &symbols, &relocs)?;
+    Ok(AcceptedFile {
+        elf,
+        functions,
+        relocs,
+    })
 }

@@ -1,15 +1,20 @@
-//! The readable bytes of a file: its segments without their code, and the first stack.
-ghost use Rattle.std.specs.Prelude.{◌≡◌, ◌∷◌, ◌++◌, [], ◌<◌, ◌≤◌, All, IfOk, OnOk, replicate};
+//! The readable bytes of a file: its segments without their code, with tokens put in, and the first stack.
+ghost use Rattle.std.specs.Prelude.{◌≡◌, ◌∷◌, ◌++◌, [], ◌-◌, ◌<◌, ◌≤◌, All, IfOk, OnOk, length, map, replicate};
 ghost use Rattle.std.specs.List.Sorted.{IsNonDecreasingBy};
 ghost use Rattle.load_law.specs.Placed.{IsPlaced};
 ghost use Rattle.elf_rules.specs.declared.elf.Head.{Head};
 ghost use Rattle.elf_rules.specs.Accepted.{data_regions, piece, pieces, segment_bytes};
+ghost use Rattle.image_rules.specs.declared.tokens.Token.{Token};
+ghost use Rattle.image_rules.specs.Bound.{bound_region, bytes_by};
 ghost use Rattle.sh_types.specs.Image.{first_stack};
 ghost use Rattle.sh_types.specs.Limits.{stack_size};
+ghost use Rattle.guest_image.specs.Binds.{IsNarrow};
 ghost use Rattle.guest_image.specs.Order.{EndsLow, StartsFrom};
 
+use crate::laying::lay;
 use crate::order::codes_within;
 use elf_rules::{Head, Segment};
+use image_rules::Token;
 use sh_types::limits::{STACK_END, STACK_SIZE, STACK_START};
 use sh_types::{Bytes, Region};
 use std::alloc::{AllocError, Global};
@@ -22,11 +27,12 @@ fn segment_bytes(
     segment: &Segment,
     from: u64,
     to: u64,
-) -> Result<Bytes, AllocError>
+) -> Result<Vec<u8>, AllocError>
     requires placed { IsPlaced bytes.now segment.now }
     requires from { segment.now.start ≤ from }
     requires order { from < to }
-    ensures { IfOk result (λ all. all ≡ segment_bytes bytes.now segment.now from to) }
+    ensures bytes { IfOk result (λ all. all.items ≡ segment_bytes bytes.now segment.now from to) }
+    ensures many { IfOk result (λ all. length all.items ≡ to - from) }
 {
     let size = (to - from) as usize;
     let end = to.min(segment.start + segment.file_size);
@@ -36,13 +42,36 @@ fn segment_bytes(
         all.extend_from_slice(&bytes[place..place + (end - from) as usize])?;
     }
     all.resize(size, 0)?;
+    Ok(all)
+}
+
+/// The same with the tokens that stand there.
+fn bound_bytes(
+    alloc: Global,
+    bytes: &[u8],
+    tokens: &[Token],
+    segment: &Segment,
+    from: u64,
+    to: u64,
+) -> Result<Bytes, AllocError>
+    requires placed { IsPlaced bytes.now segment.now }
+    requires from { segment.now.start ≤ from }
+    requires order { from < to }
+    requires narrow { All IsNarrow tokens.now }
+    requires rise { IsNonDecreasingBy (λ (t : Token). t.place) tokens.now }
+    ensures { IfOk result (λ all. all ≡ bytes_by tokens.now from (segment_bytes bytes.now segment.now from to)) }
+{
+    let mut all = segment_bytes(alloc, bytes, segment, from, to)?;
+    lay(tokens, from, &mut all);
     Ok(Bytes::from_vec(all))
 }
 
 /// Adds the part of a segment from one address up to another, if there is a byte.
+#[tactic(auto, unfolding(image_rules::specs::Bound::bound_region))]
 fn add_piece(
     alloc: Global,
     bytes: &[u8],
+    tokens: &[Token],
     segment: &Segment,
     from: u64,
     to: u64,
@@ -50,14 +79,16 @@ fn add_piece(
 ) -> Result<(), AllocError>
     requires placed { IsPlaced bytes.now segment.now }
     requires from { segment.now.start ≤ from }
-    ensures { OnOk result (regions.new.items ≡ regions.old.items ++ piece bytes.now segment.now from to) }
+    requires narrow { All IsNarrow tokens.now }
+    requires token_order { IsNonDecreasingBy (λ (t : Token). t.place) tokens.now }
+    ensures { OnOk result (regions.new.items ≡ regions.old.items ++ map (bound_region tokens.now) (piece bytes.now segment.now from to)) }
 {
     if from < to {
         regions.push(Region {
             start: from,
             end: to,
             writable: segment.writable,
-            bytes: segment_bytes(alloc, bytes, segment, from, to)?,
+            bytes: bound_bytes(alloc, bytes, tokens, segment, from, to)?,
         })?;
     }
     Ok(())
@@ -67,6 +98,7 @@ fn add_piece(
 fn add_pieces(
     alloc: Global,
     bytes: &[u8],
+    tokens: &[Token],
     segment: &Segment,
     codes: &[Head],
     regions: &mut Vec<Region>,
@@ -74,16 +106,19 @@ fn add_pieces(
     requires placed { IsPlaced bytes.now segment.now }
     requires inside { All (StartsFrom segment.now.start) codes.now }
     requires low { All EndsLow codes.now }
-    ensures { OnOk result (regions.new.items ≡ regions.old.items ++ pieces bytes.now segment.now segment.now.start codes.now) }
+    requires narrow { All IsNarrow tokens.now }
+    requires token_order { IsNonDecreasingBy (λ (t : Token). t.place) tokens.now }
+    ensures { OnOk result (regions.new.items ≡ regions.old.items ++ map (bound_region tokens.now) (pieces bytes.now segment.now segment.now.start codes.now)) }
 {
     let mut from = segment.start;
     for code in codes {
-        add_piece(alloc, bytes, segment, from, code.start, regions)?;
+        add_piece(alloc, bytes, tokens, segment, from, code.start, regions)?;
         from = code.start + code.size;
     }
     add_piece(
         alloc,
         bytes,
+        tokens,
         segment,
         from,
         segment.start + segment.size,
@@ -95,18 +130,21 @@ fn add_pieces(
 fn data_regions(
     alloc: Global,
     bytes: &[u8],
+    tokens: &[Token],
     codes: &[Head],
     segments: &[Segment],
 ) -> Result<Vec<Region>, AllocError>
     requires placed { All (IsPlaced bytes.now) segments.now }
     requires rise { IsNonDecreasingBy (λ (h : Head). h.start) codes.now }
     requires low { All EndsLow codes.now }
-    ensures { IfOk result (λ regions. regions.items ≡ data_regions bytes.now codes.now segments.now) }
+    requires narrow { All IsNarrow tokens.now }
+    requires token_order { IsNonDecreasingBy (λ (t : Token). t.place) tokens.now }
+    ensures { IfOk result (λ regions. regions.items ≡ map (bound_region tokens.now) (data_regions bytes.now codes.now segments.now)) }
 {
     let mut regions = Vec::new(alloc);
     for segment in segments {
         let inside = codes_within(segment, codes);
-        add_pieces(alloc, bytes, segment, inside, &mut regions)?;
+        add_pieces(alloc, bytes, tokens, segment, inside, &mut regions)?;
     }
     Ok(regions)
 }
@@ -134,15 +172,18 @@ fn stack(alloc: Global, size: usize) -> Result<Region, AllocError>
 pub fn all_regions(
     alloc: Global,
     bytes: &[u8],
+    tokens: &[Token],
     codes: &[Head],
     segments: &[Segment],
 ) -> Result<Vec<Region>, AllocError>
     requires placed { All (IsPlaced bytes.now) segments.now }
     requires rise { IsNonDecreasingBy (λ (h : Head). h.start) codes.now }
     requires low { All EndsLow codes.now }
-    ensures { IfOk result (λ regions. regions.items ≡ data_regions bytes.now codes.now segments.now ++ first_stack ∷ []) }
+    requires narrow { All IsNarrow tokens.now }
+    requires token_order { IsNonDecreasingBy (λ (t : Token). t.place) tokens.now }
+    ensures { IfOk result (λ regions. regions.items ≡ map (bound_region tokens.now) (data_regions bytes.now codes.now segments.now) ++ first_stack ∷ []) }
 {
-    let mut regions = data_regions(alloc, bytes, codes, segments)?;
+    let mut regions = data_regions(alloc, bytes, tokens, codes, segments)?;
     regions.push(stack(alloc, STACK_SIZE)?)?;
     Ok(regions)
 }

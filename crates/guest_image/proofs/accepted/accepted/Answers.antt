@@ -2,6 +2,12 @@ use Rattle.std.proofs.Common.{rules}
 use Rattle.guest_image.proofs.Refusing.{whole_refusal}
 use Rattle.guest_image.proofs.accepted.accepted.Goals as goal
 
+pub returns-in_err-relocs : goal.returns-in_err-relocs
+returns-in_err-relocs c = rw whole_refusal (search rules)
+
+pub returns-in_err-symbols : goal.returns-in_err-symbols
+returns-in_err-symbols c = rw whole_refusal (search rules)
+
 pub returns-in_err-functions : goal.returns-in_err-functions
 returns-in_err-functions c = rw whole_refusal (search rules)
 
