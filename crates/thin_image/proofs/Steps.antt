@@ -3,7 +3,7 @@ use Rattle.std.proofs.Common.{◌≡◌, ℕ, zero, suc, ◌+◌, ◌<◌, List,
 use Rattle.std.specs.Prelude.{◌==◌, ◌&&◌}
 use Rattle.std.specs.List.{zip}
 use Rattle.rv_table.specs.Decoding.{decoded}
-use Rattle.elf_rules.specs.Thin.{are_plain_words, is_plain_word}
+use Rattle.image_rules.specs.Thin.{are_plain_words, is_plain_word}
 
 zip_suc : {A : Type 0} {B : Type 0} (xs : List A) (ys : List B) (i : ℕ) (x : A) (y : B) → i < length xs → i < length ys → zip (drop i xs) (drop i ys) ≡ (get_or xs i x, get_or ys i y) ∷ zip (drop (suc i) xs) (drop (suc i) ys)
 zip_suc [] ys i x y h k = absurd (omega arith)

@@ -1,7 +1,7 @@
 //! The frames of thin functions: where sp and the return address are at each word.
 ghost use Rattle.std.specs.Prelude.{◌≡◌, ◌≤◌, ◌^◌, IfOk, map, pos, ◌-ℤ◌, Some};
 ghost use Rattle.rv_table.specs.Decoding.{decoded};
-ghost use Rattle.elf_rules.specs.Thin as thin;
+ghost use Rattle.image_rules.specs.Thin as thin;
 
 use crate::words::{is_jal, is_jalr, moves_sp};
 use rv_decode::decode;
@@ -22,7 +22,7 @@ fn moved_depth(depth: u32, by: i64) -> u32
     }
 }
 
-#[tactic(auto, unfolding(elf_rules::specs::Thin::state_behind))]
+#[tactic(auto, unfolding(image_rules::specs::Thin::state_behind))]
 fn state_behind(instr: Instr, state: FrameState) -> Option<FrameState>
     ensures { result ≡ thin.state_behind instr state }
 {

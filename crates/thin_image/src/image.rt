@@ -3,7 +3,7 @@ ghost use Rattle.std.specs.Prelude.{◌≡◌, ◌<◌, IfOk, IfSome, None, Some
 ghost use Rattle.elf_rules.specs.Coded.{IsCoded};
 ghost use Rattle.sh_types.specs.Image.{starts_of};
 ghost use Rattle.sh_machines.specs.Runnable.{IsRunnable};
-ghost use Rattle.elf_rules.specs.Thin.{classified, is_thin};
+ghost use Rattle.image_rules.specs.Thin.{classified, is_thin};
 ghost use Rattle.thin_image.specs.LaidOut.{IsLaidOut, IsRising};
 
 use crate::frames::all_frames;
@@ -14,8 +14,9 @@ use sh_types::{Image, Items, NoMemory};
 use std::alloc::{AllocError, Global};
 use thin_law::thin_images_are_runnable;
 
-/// Whether the first stack is all that can be read, and each function has the words of a thin file.
-#[tactic(auto, unfolding(elf_rules::specs::Thin::is_thin))]
+/// Whether no address of code is taken as data, the first stack is all that can be read, and each function has the words
+/// of a thin file.
+#[tactic(auto, unfolding(image_rules::specs::Thin::is_thin))]
 fn is_thin(image: &Image, starts: &[u64]) -> bool
     requires starts { starts.now ≡ starts_of image.now.functions }
     requires rising { IsRising starts.now }
@@ -23,12 +24,14 @@ fn is_thin(image: &Image, starts: &[u64]) -> bool
     requires entry { image.now.entry < length starts.now }
     ensures { result ≡ is_thin image.now }
 {
-    image.regions.len() == 1
+    image.rows.len() == 0
+        && image.labels.len() == 0
+        && image.regions.len() == 1
         && are_thin_functions(starts, starts[image.entry as usize], image.words.as_slice())
 }
 
 /// The image with the classes and frames of a thin one.
-#[tactic(auto, unfolding(elf_rules::specs::Thin::classified))]
+#[tactic(auto, unfolding(image_rules::specs::Thin::classified))]
 fn classified(alloc: Global, image: Image, starts: &[u64]) -> Result<Image, AllocError>
     requires starts { starts.now ≡ starts_of image.functions }
     requires rising { IsRising starts.now }
@@ -44,8 +47,8 @@ fn classified(alloc: Global, image: Image, starts: &[u64]) -> Result<Image, Allo
     })
 }
 
-/// The image with its classes and frames where it is thin, and None where it is not: where bytes can be read beside
-/// the first stack, or a function has other words than a thin file's. It is the image of an accepted file, and its own
+/// The image with its classes and frames where it is thin, and None where it is not: where an address of code is taken as
+/// data, bytes can be read beside the first stack, or a function has other words than a thin file's. It is the image of an accepted file, and its own
 /// classes and frames do not count. A machine can be made of the image that is given back. Err where memory is
 /// refused. The target of a call is found by a search among the starts, so the time is that of the number of words
 /// times the logarithm of the number of functions.

@@ -1,5 +1,5 @@
-//! Thin images: those of a few instructions, whose classes and frames follow without relocation records. The rules are
-//! those of `is_thin` in the definitions of sh_types.
+//! Thin images: those of a few instructions, of whose code no address is taken. The rules are
+//! those of `is_thin` in the definitions of image_rules.
 #![tactic(auto)]
 
 mod frames;

@@ -2,7 +2,7 @@
 ghost use Rattle.std.specs.Prelude.{◌≡◌, ◌+◌, ◌*◌, ◌<◌, ◌^◌, IfOk, length, map};
 ghost use Rattle.std.specs.List.{zip};
 ghost use Rattle.rv_table.specs.Decoding.{decoded};
-ghost use Rattle.elf_rules.specs.Thin as thin;
+ghost use Rattle.image_rules.specs.Thin as thin;
 ghost use Rattle.thin_image.specs.LaidOut.{IsLaidOut, IsRising};
 
 use crate::words::{callee_of, is_ecall, is_jal, is_jalr};
@@ -20,7 +20,7 @@ fn call_site(callee: Option<u32>) -> Site
     }
 }
 
-#[tactic(auto, unfolding(elf_rules::specs::Thin::instr_site))]
+#[tactic(auto, unfolding(image_rules::specs::Thin::instr_site))]
 fn instr_site(starts: &[u64], address: u64, instr: Instr) -> Site
     requires { IsRising starts.now }
     ensures { result ≡ thin.instr_site starts.now address instr }

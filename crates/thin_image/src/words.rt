@@ -1,7 +1,7 @@
 //! The words that thin functions have (RISC-V Unprivileged ISA, "RV32I Base Integer Instruction Set").
 ghost use Rattle.std.specs.Prelude.{◌≡◌, ◌+◌, ◌*◌, ◌<◌, ◌^◌, length};
 ghost use Rattle.rv_table.specs.Decoding.{decoded};
-ghost use Rattle.elf_rules.specs.Thin as thin;
+ghost use Rattle.image_rules.specs.Thin as thin;
 ghost use Rattle.thin_image.specs.LaidOut.{IsLaidOut, IsRising};
 
 use crate::starts::number_of;
@@ -18,7 +18,7 @@ fn computes(op: Op) -> bool
     matches!(op, Op::Lui | Op::Addi | Op::Add)
 }
 
-#[tactic(auto, unfolding(elf_rules::specs::Thin::is_plain))]
+#[tactic(auto, unfolding(image_rules::specs::Thin::is_plain))]
 fn is_plain(instr: Instr) -> bool
     ensures { result ≡ thin.is_plain instr }
 {
@@ -32,7 +32,7 @@ fn is_addi(op: Op) -> bool
 }
 
 /// Whether the instruction is `addi sp,sp,imm`.
-#[tactic(auto, unfolding(elf_rules::specs::Thin::moves_sp))]
+#[tactic(auto, unfolding(image_rules::specs::Thin::moves_sp))]
 pub fn moves_sp(instr: Instr) -> bool
     ensures { result ≡ thin.moves_sp instr }
 {
@@ -80,7 +80,7 @@ pub fn callee_of(starts: &[u64], address: u64, instr: Instr) -> Option<u32>
     number_of(starts, jump_target(address, instr))
 }
 
-#[tactic(auto, unfolding(elf_rules::specs::Thin::is_call))]
+#[tactic(auto, unfolding(image_rules::specs::Thin::is_call))]
 fn is_call(starts: &[u64], entry: u64, address: u64, instr: Instr) -> bool
     requires { IsRising starts.now }
     ensures { result ≡ thin.is_call starts.now entry address instr }
@@ -91,7 +91,7 @@ fn is_call(starts: &[u64], entry: u64, address: u64, instr: Instr) -> bool
         && jump_target(address, instr) != entry
 }
 
-#[tactic(auto, unfolding(elf_rules::specs::Thin::is_entry_instr))]
+#[tactic(auto, unfolding(image_rules::specs::Thin::is_entry_instr))]
 fn is_entry_instr(starts: &[u64], entry: u64, address: u64, instr: Instr) -> bool
     requires { IsRising starts.now }
     ensures { result ≡ thin.is_entry_instr starts.now entry address instr }
@@ -152,7 +152,7 @@ fn are_plain_words(words: &[u32]) -> bool
     false
 }
 
-#[tactic(auto, unfolding(elf_rules::specs::Thin::is_thin_function))]
+#[tactic(auto, unfolding(image_rules::specs::Thin::is_thin_function))]
 fn is_thin_function(starts: &[u64], entry: u64, start: u64, words: &[u32]) -> bool
     requires rising { IsRising starts.now }
     requires low { start + 4 * length words.now < 2 ^ 32 }

@@ -21,7 +21,7 @@ use Rattle.sh_types.specs.Image.{sizes_of, row_at, number_of}
 use Rattle.rv_table.specs.Instruction.{row_of, IsSigned}
 use Rattle.sh_machines.specs.Kind.{framed_kind, plain_kind, site_kind}
 use Rattle.rv_table.specs.Operands.{number_of_imm}
-use Rattle.elf_rules.specs.Thin.{computes, is_addi, is_sb, is_ecall, is_jal, is_plain, moves_sp, is_call, is_entry_instr, callee_of, jump_target, call_site, instr_site, small_depth, state_behind, entered}
+use Rattle.image_rules.specs.Thin.{computes, is_addi, is_sb, is_ecall, is_jal, is_plain, moves_sp, is_call, is_entry_instr, callee_of, jump_target, call_site, instr_site, small_depth, state_behind, entered}
 use Rattle.sh_machines.specs.Unmoved.{next_of}
 use Rattle.thin_law.proofs.States.{IsOpen, plain_parts, plain_state, return_instr, Shift, Back, New, shifted}
 

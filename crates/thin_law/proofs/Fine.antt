@@ -12,7 +12,7 @@ use Rattle.sh_types.specs.declared.code.Site.TheVariants.{Plain}
 use Rattle.rv_table.specs.declared.instructions.Instr.{Instr}
 use Rattle.elf_rules.specs.declared.refusals.LoadFault.{LoadFault}
 use Rattle.rv_table.specs.Decoding.{decoded}
-use Rattle.elf_rules.specs.Accepted.{Accepts, is_accepted, loaded_image, refusal_of}
+use Rattle.elf_rules.specs.Accepted.{Accepts, is_accepted, refusal_of}
 use Rattle.elf_rules.specs.Coded.{IsCoded}
 use Rattle.sh_machines.specs.Copy.{literals_below}
 use Rattle.sh_machines.specs.Fine.{SiteFits, IsFine}
@@ -21,7 +21,8 @@ use Rattle.sh_types.specs.Image.{sizes_of, starts_of, no_rows, row_in, row_at, s
 use Rattle.sh_machines.specs.Kind.{Past, word_kind, kind_at}
 use Rattle.sh_types.specs.Place.{pair, IsPair}
 use Rattle.sh_machines.specs.Tokens.{AreInOrder}
-use Rattle.elf_rules.specs.Thin.{is_plain_word, are_entry_words, are_plain_words, is_thin_function, word_site, sites_from, states_from, word_behind, entered, entry_home, is_thin, classified, thin_image}
+use Rattle.image_rules.specs.Bound.{bound_image}
+use Rattle.image_rules.specs.Thin.{is_plain_word, are_entry_words, are_plain_words, is_thin_function, word_site, sites_from, states_from, word_behind, entered, entry_home, is_thin, classified, thin_image}
 use Rattle.sh_machines.specs.Unmoved.{next_of}
 use Rattle.thin_law.proofs.Words.{addi_signed, IsEntryWord, entry_word, IsOtherWord, other_word}
 use Rattle.thin_law.proofs.States.{IsOpen, open_state, entered_open, state_first, state_next, state_within, state_open, state_entered, return_instr, return_decoded}
@@ -256,22 +257,14 @@ accepts b t = by (refusal_of b) t
     by None t = refl
     by (Some refusal) t = absurd (cc)
 
-none_loaded : (b : List ℕ) → (loaded_image b).rows ≡ []
-unfolding loaded_image
-none_loaded b = refl
-
-none_labelled : (b : List ℕ) → (loaded_image b).labels ≡ []
-unfolding loaded_image
-none_labelled b = refl
-
-pub thin_fine : ((b : List ℕ) → Accepts b → IsCoded (loaded_image b)) → (b : List ℕ) (image : Image) → thin_image b ≡ Some image → IsFine image
+pub thin_fine : ((b : List ℕ) → Accepts b → IsCoded (bound_image b)) → (b : List ℕ) (image : Image) → thin_image b ≡ Some image → IsFine image
 unfolding thin_image
-thin_fine coded b image e = by (is_accepted b) (is_thin (loaded_image b)) refl refl e
+thin_fine coded b image e = by (is_accepted b) (is_thin (bound_image b)) refl refl e
   where
-    by : (s t : Bool) → is_accepted b ≡ s → is_thin (loaded_image b) ≡ t → (if s && t then Some (classified (loaded_image b)) else None) ≡ Some image → IsFine image
+    by : (s t : Bool) → is_accepted b ≡ s → is_thin (bound_image b) ≡ t → (if s && t then Some (classified (bound_image b)) else None) ≡ Some image → IsFine image
     by true true a t e =
-        subst IsFine (same_image (classified (loaded_image b)) image e)
-        (is_fine (classified (loaded_image b)) (starts_of (loaded_image b).functions) (entry_home (loaded_image b))
-        (thin_code (loaded_image b) (coded b (accepts b a)) (none_loaded b) (none_labelled b) t) (few_literals (loaded_image b)))
+        subst IsFine (same_image (classified (bound_image b)) image e)
+        (is_fine (classified (bound_image b)) (starts_of (bound_image b).functions) (entry_home (bound_image b))
+        (thin_code (bound_image b) (coded b (accepts b a)) t) (few_literals (bound_image b)))
     by true false a t e = absurd (cc)
     by false t a q e = absurd (cc)

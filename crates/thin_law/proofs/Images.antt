@@ -1,15 +1,16 @@
 -- The parts of a thin image, with its classes and frames.
 use Rattle.std.proofs.Common.{◌≡◌, inl, inr, ℕ, zero, suc, ◌+◌, ◌*◌, ◌%◌, ◌<◌, ◌≤◌, Bool, true, Some, List, [], ◌∷◌, length, get_or, sym, ap, ◌∙◌, arith, refl}
-use Rattle.std.specs.Prelude.{◌==◌, map, slice_index, slice_index_or, if◌then◌else◌, false}
+use Rattle.std.specs.Prelude.{◌==◌, ◌&&◌, map, slice_index, slice_index_or, if◌then◌else◌, false}
 use Rattle.std.specs.List.{list_all, position_from, zip}
 use Rattle.std.proofs.lemmas.Bool.{and_parts, eqb-true, cases_lt}
+use Rattle.std.proofs.lemmas.Bool.Decides.{nat_tests}
 use Rattle.std.proofs.lemmas.List.{get_or-map, get_or_past, length-map}
 use Rattle.sh_types.specs.declared.code.Function.{Function}
 use Rattle.sh_types.specs.declared.code.FrameTable.{FrameTable}
 use Rattle.sh_types.specs.declared.code.Image.{Image}
 use Rattle.elf_rules.specs.Coded.{IsCoded}
 use Rattle.sh_types.specs.Image.{sizes_of, starts_of, number_of, no_rows, first_stack}
-use Rattle.elf_rules.specs.Thin.{sites_from, frames_of, states_from, entered, is_thin_function, are_thin_functions, entry_home, is_thin, classified}
+use Rattle.image_rules.specs.Thin.{sites_from, frames_of, states_from, entered, is_thin_function, are_thin_functions, entry_home, is_thin, takes_none, classified}
 use Rattle.thin_law.proofs.Cases.{OthersCalled}
 
 -- ---- what is to be known of the image
@@ -92,16 +93,24 @@ no_rows_at ws f l = ap (λ (t : FrameTable). t.rows) (get_or_past (map frames_of
 
 -- the parts of the test
 pub record IsThin (i : Image) : Type 0 where
+  pub rows : i.rows ≡ []
+  pub labels : i.labels ≡ []
   pub regions : length i.regions ≡ 1
   pub thin : are_thin_functions (starts_of i.functions) (entry_home i) i.words ≡ true
+
+no_length : {A : Type 0} (xs : List A) → (length xs == 0) ≡ true → xs ≡ []
+no_length [] t = refl
+no_length (x ∷ xs) t = absurd (grind (arith, nat_tests, t))
 
 pub thin_parts : (i : Image) → is_thin i ≡ true → IsThin i
 unfolding is_thin
 thin_parts i t =
-    let parts = and_parts (length i.regions == 1) (are_thin_functions (starts_of i.functions) (entry_home i) i.words) t in
-    record { regions = eqb-true (length i.regions) 1 parts.0; thin = parts.1 }
+    let halves = and_parts (takes_none i) ((length i.regions == 1) && are_thin_functions (starts_of i.functions) (entry_home i) i.words) t in
+    let none = and_parts (length i.rows == 0) (length i.labels == 0) halves.0 in
+    let parts = and_parts (length i.regions == 1) (are_thin_functions (starts_of i.functions) (entry_home i) i.words) halves.1 in
+    record { rows = no_length i.rows none.0; labels = no_length i.labels none.1; regions = eqb-true (length i.regions) 1 parts.0; thin = parts.1 }
 
-module _ (i : Image) (code : IsCoded i) (none_taken : i.rows ≡ []) (none_named : i.labels ≡ []) (test : IsThin i) where
+module _ (i : Image) (code : IsCoded i) (test : IsThin i) where
   many_starts : length (starts_of i.functions) ≡ length i.functions
   many_starts = length-map i.functions (λ (f : Function). f.home)
 
@@ -166,9 +175,9 @@ module _ (i : Image) (code : IsCoded i) (none_taken : i.rows ≡ []) (none_named
         beyond = λ f l. no_rows_past f (omega (arith, l, many));
         whole = λ f. ap (λ sizes. slice_index sizes f % 4) same_sizes ∙ code.whole f;
         regions = code.stack test.regions;
-        none_taken = none_taken;
-        none_named = none_named;
+        none_taken = test.rows;
+        none_named = test.labels;
       }
 
-pub thin_code : (i : Image) → IsCoded i → i.rows ≡ [] → i.labels ≡ [] → is_thin i ≡ true → IsThinImage (classified i) (starts_of i.functions) (entry_home i)
-thin_code i code none named t = is_thin_image i code none named (thin_parts i t)
+pub thin_code : (i : Image) → IsCoded i → is_thin i ≡ true → IsThinImage (classified i) (starts_of i.functions) (entry_home i)
+thin_code i code t = is_thin_image i code (thin_parts i t)

@@ -20,7 +20,7 @@ use Rattle.sh_types.specs.Image.{sizes_of, starts_of, site_at}
 use Rattle.sh_types.specs.Place.{pair}
 use Rattle.sh_machines.specs.Runnable.{IsRunnable}
 use Rattle.sh_types.specs.Sized.{total, IsSized}
-use Rattle.elf_rules.specs.Thin.{callee_of, call_site, instr_site, word_site, sites_from, is_ecall, is_jalr, is_jal, is_thin, classified}
+use Rattle.image_rules.specs.Thin.{callee_of, call_site, instr_site, word_site, sites_from, is_ecall, is_jalr, is_jal, is_thin, classified}
 use Rattle.thin_law.proofs.Images.{is_number, thin_parts}
 
 -- ---- the sizes

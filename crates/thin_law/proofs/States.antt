@@ -14,7 +14,7 @@ use Rattle.rv_table.specs.Decoding.{decoded, op_in, made}
 use Rattle.sh_machines.specs.Frame.{IsLoose, IsState}
 use Rattle.rv_table.specs.Instruction.{row_of, IsSigned}
 use Rattle.rv_table.specs.Operands.{plus_imm}
-use Rattle.elf_rules.specs.Thin.{computes, is_jal, is_jalr, is_plain, is_plain_word, moves_sp, are_plain_words, entered, small_depth, state_behind, word_behind, states_from}
+use Rattle.image_rules.specs.Thin.{computes, is_jal, is_jalr, is_plain, is_plain_word, moves_sp, are_plain_words, entered, small_depth, state_behind, word_behind, states_from}
 
 -- ---- along the words
 

@@ -11,7 +11,7 @@ use Rattle.rv_table.specs.Decoding.{decoded, op_in, read, signed_bits}
 use Rattle.rv_table.specs.Instruction.{row_of, IsSigned}
 use Rattle.rv_table.specs.declared.rows.Form.{Form}
 use Rattle.rv_table.specs.declared.rows.Form.TheVariants.{Upper, Jump, Branch, Immediate, Storing, Register, Shift6, Shift5, Atomic, Reserving, Fencing, Whole}
-use Rattle.elf_rules.specs.Thin.{is_addi, is_entry_word, are_entry_words, is_plain_word, are_plain_words, word_site, sites_from}
+use Rattle.image_rules.specs.Thin.{is_addi, is_entry_word, are_entry_words, is_plain_word, are_plain_words, word_site, sites_from}
 
 -- ---- immediates
 

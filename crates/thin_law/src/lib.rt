@@ -6,15 +6,15 @@ ghost use Rattle.sh_types.specs.declared.code.Image.{Image};
 ghost use Rattle.elf_rules.specs.Coded.{IsCoded};
 ghost use Rattle.sh_machines.specs.Fine.{IsFine};
 ghost use Rattle.sh_machines.specs.Runnable.{IsRunnable};
-ghost use Rattle.elf_rules.specs.Thin.{classified, is_thin, thin_image};
+ghost use Rattle.image_rules.specs.Thin.{classified, is_thin, thin_image};
 
-use load_law::accepted_images_are_coded;
+use bound_law::bound_images_are_coded;
 
 /// Words, classes and frames of a thin file's image fit each other.
 pub fn thin_images_are_fine()
     ensures fine { (file : List ℕ) (image : Image) → thin_image file ≡ Some image → IsFine image }
 {
-    accepted_images_are_coded();
+    bound_images_are_coded();
 }
 
 /// A machine can be made of a thin image, once it has its classes and frames.

@@ -1,6 +1,6 @@
 use Rattle.std.proofs.Common.{◌≡◌, ◌++◌, drop}
 use Rattle.std.specs.Prelude.{map}
-use Rattle.elf_rules.specs.Thin as thin
+use Rattle.image_rules.specs.Thin as thin
 use Rattle.thin_image.proofs.frames.all_frames.Given as goal
 
 abbrev pub invariant-loop-function : goal.invariant-loop-function

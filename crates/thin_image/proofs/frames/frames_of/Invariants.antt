@@ -1,5 +1,5 @@
 use Rattle.std.proofs.Common.{◌≡◌, ◌++◌, drop, Some}
-use Rattle.elf_rules.specs.Thin as thin
+use Rattle.image_rules.specs.Thin as thin
 use Rattle.thin_image.proofs.frames.frames_of.Given as goal
 
 abbrev pub invariant-loop-word : goal.invariant-loop-word

@@ -1,5 +1,5 @@
 use Rattle.std.proofs.Common.{◌≡◌, ◌+◌, ◌*◌, drop}
-use Rattle.elf_rules.specs.Thin as thin
+use Rattle.image_rules.specs.Thin as thin
 use Rattle.thin_image.proofs.words.are_entry_words.Given as goal
 
 abbrev pub invariant-loop-word : goal.invariant-loop-word

@@ -1,5 +1,5 @@
 use Rattle.std.proofs.Common.{◌≡◌, drop}
-use Rattle.elf_rules.specs.Thin as thin
+use Rattle.image_rules.specs.Thin as thin
 use Rattle.thin_image.proofs.words.are_plain_words.Given as goal
 
 abbrev pub invariant-loop-i : goal.invariant-loop-i

@@ -1,6 +1,6 @@
 use Rattle.std.proofs.Common.{◌≡◌, drop}
 use Rattle.std.specs.List.{list_all, zip}
-use Rattle.elf_rules.specs.Thin as thin
+use Rattle.image_rules.specs.Thin as thin
 use Rattle.thin_image.proofs.words.are_thin_functions.Given as goal
 
 abbrev pub invariant-loop-i : goal.invariant-loop-i
