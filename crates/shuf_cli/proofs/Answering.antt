@@ -1,19 +1,21 @@
 -- The answer, by what came of the loads and how it was delivered.
-use Rattle.std.proofs.Common.{◌≡◌, ◌≢◌, ◌≤◌, ◌⊎◌, ℕ, List, [], refl, sym, ◌∙◌, ap, subst, inl, inr, arith}
-use Rattle.std.specs.Prelude.{Option, Some, None, IsSomeAnd}
+use Rattle.std.proofs.Common.{false, ◌≡◌, ◌≢◌, ◌≤◌, ℕ, List, sym, ◌∙◌, ap, subst, inl, inr, arith}
+use Rattle.std.specs.Prelude.{Option, Some, None, IsSomeAnd, Result, Ok, Err, IfOk, OnErr, if◌then◌else◌}
 use Rattle.std.proofs.lemmas.Bool.{cases_eq}
-use Rattle.sh_base.specs.Held.{FileMap, Stores, OthersStand}
+use Rattle.sh_base.specs.Held.{Stores, OthersStand}
 use Rattle.sh_base.specs.declared.files.FileWord.TheVariants as words
 use Rattle.sh_base.specs.Told.{FileAnswer}
 use Rattle.shuf_cli.specs.declared.words.Command.{Command}
 use Rattle.shuf_cli.specs.declared.due.Due.{Due}
 use Rattle.shuf_cli.specs.declared.due.Done.{Done}
 use Rattle.shuf_cli.specs.declared.due.FileStore.{FileStore}
-use Rattle.shuf_cli.specs.Answer.{FilesState, World, Grows, Given, IsStored, IsUnstored, Delivered, unstored_due}
+use Rattle.shuf_cli.specs.declared.due.Outcome.{Outcome}
+use Rattle.sh_types.specs.declared.runs.NoMemory.{NoMemory}
+use Rattle.shuf_cli.specs.Answer.{FilesState, World, Grows, Wrote, Given, IsStored, IsUnstored, Delivered, CameOut, done_by, done_of, unstored_due}
+use Rattle.shuf_cli.specs.Lines.{unwritable_line}
 use Rattle.shuf_cli.specs.Asked.{Loaded, Came, Stopped}
 use Rattle.shuf_cli.specs.Headline.{Answered}
 use Rattle.shuf_cli.specs.Rows.{Row, row_of}
-use Rattle.shuf_cli.specs.Run.{HasExited}
 use Rattle.shuf_cli.proofs.Dues.{due_said, low}
 use Rattle.shuf_cli.proofs.Loading.{causes_last}
 
@@ -53,7 +55,7 @@ module _ (command : Option Command) (seed : List ℕ) (w : World) (mid : FilesSt
   low_status : (given : Due) → given.status ≤ 12 → Gives given → done.status ≢ 14
   low_status given small g e = elim (cases_eq done.status 13) [
     | inl thirteen ↦ absurd (omega (arith, thirteen, e))
-    | inr ne ↦ (let s = (g.whole ne).0 in absurd (omega (arith, s, e)))
+    | inr ne ↦ (let s = (g.wrote.whole ne).0 in absurd (omega (arith, s, e)))
   ]
 
   never_14 : Delivered due from_mid done → done.status ≢ 14
@@ -92,3 +94,28 @@ refused_memory command seed w done is stopped out report = record {
 -- a status that is not that of a failed write or of want of memory is that of what is due
 pub due_low : (command : Option Command) (seed : List ℕ) (files files' : FilesState) (due : Due) → Came (row_of command seed) files files' due → due.status ≤ 12
 due_low command seed files files' due came = low due (due_said command seed came.loads due came.comes came.exited)
+
+-- the answer that is made of an outcome
+delivered_by : (due : Due) (w : World) (o : Outcome) → CameOut due w o → Delivered due w (done_by due o)
+delivered_by due w o (inl (stored, whole, wrote)) =
+    inl (stored, record { wrote = wrote; end = ap (λ b. if b then due.end else None) whole; machine = ap (λ b. if b then due.machine else None) whole })
+delivered_by due w o (inr unstored) = inr (by due.store unstored)
+  where
+    by : (s : Option FileStore)
+        → IsSomeAnd s (λ (store : FileStore). IsUnstored store w.files w.files' × (o.stored ≡ false) × Wrote None (Some (unwritable_line store.name)) 11 w.out w.out' w.report w.report' o.status)
+        → IsSomeAnd s (λ (store : FileStore). IsUnstored store w.files w.files' × Given (unstored_due store) w.out w.out' w.report w.report' (done_by due o))
+    by None u = absurd u
+    by (Some store) (u, failed, wrote) =
+        (u, record { wrote = wrote; end = ap (λ b. if b then due.end else None) failed; machine = ap (λ b. if b then due.machine else None) failed })
+
+-- the answer of a call, by what came of the loads and by the outcome
+pub finished : (command : Option Command) (seed : List ℕ) (w : World) (mid : FilesState) (due : Due) (done : Done) (came : Came (row_of command seed) w.files mid due)
+    → (outcome : Result Outcome NoMemory) → done ≡ done_of due outcome → IfOk outcome (λ o. CameOut due (record w { files = mid }) o)
+    → (Stands : Type 0) → OnErr outcome Stands → (Stands → (w.files'.held ≡ mid.held) × (w.out' ≡ w.out) × (w.report' ≡ w.report))
+    → w.files'.answered ≡ mid.answered → Grows mid w.files' → Answered command seed w done
+finished command seed w mid due done came (Ok o) is delivered Stands err stands same grows =
+    answered command seed w mid due done came same grows
+    (subst (Delivered due (record w { files = mid })) (sym is) (delivered_by due (record w { files = mid }) o delivered))
+finished command seed w mid due done came (Err e) is delivered Stands err stands same grows =
+    let (held, out, report) = stands err in
+    refused_memory command seed w done is (stopped_last (row_of command seed) w.files mid w.files' same grows due came held) out report

@@ -57,7 +57,7 @@ ending w due done (inr unstored) = by due.store refl unstored
 
 module _ (command : Option Command) (seed : List ℕ) (w : World) (done : Done) (a : Answered command seed w done) where
   given_sink : (due : Due) → Given due w.out w.out' w.report w.report' done → done.status ≡ 13 → Rose w.out.faults w.out'.faults ⊎ Rose w.report.faults w.report'.faults
-  given_sink due given thirteen = elim (given.short thirteen) [
+  given_sink due given thirteen = elim (given.wrote.short thirteen) [
     | inl s ↦ inl (refused_rose due.out w.out w.out' s.0)
     | inr s ↦ inr (refused_rose due.report w.report w.report' s.1)
   ]
@@ -69,29 +69,29 @@ module _ (command : Option Command) (seed : List ℕ) (w : World) (done : Done) 
     statuses_by : Ending w due done → Contains (0 ∷ 1 ∷ 10 ∷ 11 ∷ 12 ∷ 13 ∷ 14 ∷ []) done.status
     statuses_by (whole stored given) = elim (cases_eq done.status 13) [
       | inl thirteen ↦ (5, omega arith, sym thirteen)
-      | inr ne ↦ subst (Contains (0 ∷ 1 ∷ 10 ∷ 11 ∷ 12 ∷ 13 ∷ 14 ∷ [])) (sym (given.whole ne).0) (widen due.status said.statuses)
+      | inr ne ↦ subst (Contains (0 ∷ 1 ∷ 10 ∷ 11 ∷ 12 ∷ 13 ∷ 14 ∷ [])) (sym (given.wrote.whole ne).0) (widen due.status said.statuses)
     ]
     statuses_by (instead store is given) = elim (cases_eq done.status 13) [
       | inl thirteen ↦ (5, omega arith, sym thirteen)
-      | inr ne ↦ (3, omega arith, sym (given.whole ne).0)
+      | inr ne ↦ (3, omega arith, sym (given.wrote.whole ne).0)
     ]
 
     unstored_by : Ending w due done → Contains (10 ∷ 12 ∷ 14 ∷ []) done.status → w.files'.held ≡ w.files.held
     unstored_by (whole stored given) among =
         let (ne11, ne13, ne0) = apart done.status among in
-        subst (λ s. IsStored s w.files w.files') (said.stores (λ e. ne0 ((given.whole ne13).0 ∙ e))) stored
+        subst (λ s. IsStored s w.files w.files') (said.stores (λ e. ne0 ((given.wrote.whole ne13).0 ∙ e))) stored
     unstored_by (instead store is given) among =
         let (ne11, ne13, ne0) = apart done.status among in
-        absurd (ne11 (given.whole ne13).0)
+        absurd (ne11 (given.wrote.whole ne13).0)
 
     usage_by : Ending w due done → done.status ≡ 10 → command ≡ None
     usage_by (whole stored given) ten = by command comes
       where
         by : (c : Option Command) → comes_to (row_of c seed) a.loads ≡ Some due → c ≡ None
         by None e = refl
-        by (Some c) e = absurd (not_usage c seed a.loads due e (sym (given.whole (λ thirteen. absurd (omega (arith, ten, thirteen)))).0 ∙ ten))
+        by (Some c) e = absurd (not_usage c seed a.loads due e (sym (given.wrote.whole (λ thirteen. absurd (omega (arith, ten, thirteen)))).0 ∙ ten))
     usage_by (instead store is given) ten =
-        absurd (omega (arith, ten, (given.whole (λ thirteen. absurd (omega (arith, ten, thirteen)))).0))
+        absurd (omega (arith, ten, (given.wrote.whole (λ thirteen. absurd (omega (arith, ten, thirteen)))).0))
 
     no_command_by : Ending w due done → command ≡ None → Contains (10 ∷ 13 ∷ 14 ∷ []) done.status
     no_command_by ending none = by ending (usage_alone a.loads due (subst (λ c. comes_to (row_of c seed) a.loads ≡ Some due) none comes))
@@ -99,7 +99,7 @@ module _ (command : Option Command) (seed : List ℕ) (w : World) (done : Done) 
         by : Ending w due done → due ≡ usage_due → Contains (10 ∷ 13 ∷ 14 ∷ []) done.status
         by (whole stored given) is = elim (cases_eq done.status 13) [
           | inl thirteen ↦ (1, omega arith, sym thirteen)
-          | inr ne ↦ (0, omega arith, sym ((given.whole ne).0 ∙ ap (λ d. d.status) is))
+          | inr ne ↦ (0, omega arith, sym ((given.wrote.whole ne).0 ∙ ap (λ d. d.status) is))
         ]
         by (instead store found given) is = absurd (no_store_fails due store found is)
 
@@ -109,7 +109,7 @@ module _ (command : Option Command) (seed : List ℕ) (w : World) (done : Done) 
 
     unmade_by : Ending w due done → 10 ≤ done.status → done.status ≢ 13 → (done.end ≡ None) × (done.machine ≡ None)
     unmade_by (whole stored given) high ne =
-        let none = said.unmade (omega (arith, high, (given.whole ne).0)) in
+        let none = said.unmade (omega (arith, high, (given.wrote.whole ne).0)) in
         (given.end ∙ none.0, given.machine ∙ none.1)
     unmade_by (instead store is given) high ne = (given.end, given.machine)
 

@@ -1,26 +1,26 @@
 -- What is said of all that the commands may come to.
-use Rattle.std.proofs.Common.{◌≡◌, ◌≢◌, ◌≤◌, ℕ, zero, suc, List, [], ◌∷◌, Bool, true, false, refl, sym, arith}
+use Rattle.std.proofs.Common.{◌≡◌, ◌≤◌, ℕ, zero, suc, List, [], ◌∷◌, Bool, true, false, refl, arith}
 use Rattle.std.specs.Prelude.{Option, Some, None, nat_lt, if◌then◌else◌, Contains}
 use Rattle.sh_base.specs.Told.{FileAnswer}
 use Rattle.sh_types.specs.declared.code.Image.{Image}
 use Rattle.elf_rules.specs.declared.refusals.LoadFault.{LoadFault}
 use Rattle.sh_types.specs.declared.runs.End.{End}
 use Rattle.sh_types.specs.declared.runs.End.TheVariants.{Exit, Trapped, Leak}
-use Rattle.elf_rules.specs.Accepted.{mapped_by, loaded_image, refusal_of}
+use Rattle.elf_rules.specs.Accepted.{mapped_by, refusal_of}
+use Rattle.image_rules.specs.Bound.{bound_image}
 use Rattle.elf_rules.specs.Elf.{segments_of}
-use Rattle.elf_rules.specs.Thin.{thin_image}
+use Rattle.image_rules.specs.Thin.{thin_image}
 use Rattle.asm_text.specs.declared.faults.LineFault.{LineFault}
 use Rattle.rv_asm.specs.Object.{object_of}
 use Rattle.rv_asm.specs.Passes.{fault_of}
 use Rattle.elf_write.specs.Written.{elf_file}
 use Rattle.image_text.specs.Listing.{listing_of}
 use Rattle.shuf_machine.specs.Past.{Past, guest_of}
-use Rattle.shuf_machine.specs.Run.{image_of}
 use Rattle.hart_runner.specs.Built.{is_built, exits_or}
 use Rattle.shuf_cli.specs.declared.words.Command.{Command}
 use Rattle.shuf_cli.specs.declared.words.Command.TheVariants.{Run, Check, Asm}
 use Rattle.shuf_cli.specs.declared.due.Due.{Due}
-use Rattle.shuf_cli.specs.Dues.{line_due, text_due, store_due, unreadable_due, too_long_due}
+use Rattle.shuf_cli.specs.Dues.{line_due, text_due, store_due}
 use Rattle.shuf_cli.specs.Limits.{default_period}
 use Rattle.shuf_cli.specs.Lines.{usage_line, not_built_line}
 use Rattle.shuf_cli.specs.Rows.{row_of, comes_to, unless_refused, unless_faulty}
@@ -37,7 +37,7 @@ module _ (P : Due → Type 0) (lines : (line : List ℕ) → P (line_due 12 line
 
   of_thin : (image : Option Image) (file seed : List ℕ) → P (thin_due image file seed)
   of_thin None file seed = lines not_built_line
-  of_thin (Some image) file seed = of_built (is_built default_period (image_of file) no_input) (past_of file seed)
+  of_thin (Some image) file seed = of_built (is_built default_period image no_input) (past_of image file seed)
 
   of_refusal : (refusal : Option LoadFault) (due : Due) → P due → P (unless_refused refusal due)
   of_refusal None due p = p
@@ -49,7 +49,7 @@ module _ (P : Due → Type 0) (lines : (line : List ℕ) → P (line_due 12 line
 
   pub of_command : (command : Command) (seed : List ℕ) → EachDue P (row_of (Some command) seed)
   of_command (Run name opts) seed = λ file. of_refusal (refusal_of file) (accepted_due file seed) (of_thin (thin_image file) file seed)
-  of_command (Check name) seed = λ file. of_refusal (refusal_of file) (text_due (listing_of (loaded_image file) (mapped_by (segments_of file)))) (text _)
+  of_command (Check name) seed = λ file. of_refusal (refusal_of file) (text_due (listing_of (bound_image file) (mapped_by (segments_of file)))) (text _)
   of_command (Asm source target) seed = λ source. of_fault (fault_of source) (store_due target (elf_file (object_of source))) (store target _)
 
   pub of_row : P (line_due 10 usage_line) → (command : Option Command) (seed : List ℕ) → EachDue P (row_of command seed)

@@ -1,5 +1,5 @@
 -- What holds of all that a row may come to.
-use Rattle.std.proofs.Common.{◌≡◌, ℕ, List, [], ◌∷◌, Bool, true, false, length, refl, subst}
+use Rattle.std.proofs.Common.{◌≡◌, ℕ, List, [], ◌∷◌, Bool, true, false, length, subst}
 use Rattle.std.specs.Prelude.{Option, Some, None, nat_lt, if◌then◌else◌}
 use Rattle.sh_base.specs.Told.{FileAnswer}
 use Rattle.shuf_cli.specs.declared.due.Due.{Due}

@@ -5,4 +5,3 @@ pub mod Dues
 pub mod Each
 pub mod Loading
 pub mod Readable
-pub mod Running

@@ -5,14 +5,12 @@ use Rattle.std.specs.FinMap as map
 use Rattle.std.specs.Cmp.Lexicographic.{bytes_decides}
 use Rattle.std.proofs.lemmas.List.{take_all}
 use Rattle.std.proofs.lemmas.Bool.Decides.{nat_tests}
-use Rattle.sh_base.specs.declared.files.FileWord.TheVariants as words
-use Rattle.sh_base.specs.Faults.{fault_count}
 use Rattle.sh_base.specs.Held.{FileMap, Loads}
 use Rattle.sh_base.specs.Told.{FileAnswer}
 use Rattle.sh_base.specs.Tells.{gave}
 use Rattle.shuf_cli.specs.declared.due.Due.{Due}
 use Rattle.shuf_cli.specs.Answer.{FilesState, LoadRose}
-use Rattle.shuf_cli.specs.Asked.{HaveCauses, Loaded}
+use Rattle.shuf_cli.specs.Asked.{Loaded}
 use Rattle.shuf_cli.specs.Dues.{unreadable_due, too_long_due}
 use Rattle.shuf_cli.specs.Rows.{Row, Load, at_end, after_load, bytes_of, comes_to, AreOf}
 use Rattle.shuf_cli.specs.Said.{IsReadable, Lacks}

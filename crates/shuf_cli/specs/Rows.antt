@@ -1,9 +1,10 @@
 -- What each command comes to: the loads that it asks for, one after the other, and what is due by what they gave.
-use Rattle.std.specs.Prelude.{◌≡◌, ℕ, List, [], ◌∷◌, length, nat_lt, if◌then◌else◌, Option, Some, None, MatchOption, ⊤}
+use Rattle.std.specs.Prelude.{ℕ, List, [], ◌∷◌, length, nat_lt, if◌then◌else◌, Option, Some, None, MatchOption, ⊤}
 use Rattle.sh_base.specs.Held.{FileMap, Loads}
 use Rattle.sh_base.specs.Told.{FileAnswer}
 use Rattle.elf_rules.specs.declared.refusals.LoadFault.{LoadFault}
-use Rattle.elf_rules.specs.Accepted.{mapped_by, loaded_image, refusal_of}
+use Rattle.elf_rules.specs.Accepted.{mapped_by, refusal_of}
+use Rattle.image_rules.specs.Bound.{bound_image}
 use Rattle.elf_rules.specs.Elf.{segments_of}
 use Rattle.asm_text.specs.declared.faults.LineFault.{LineFault}
 use Rattle.rv_asm.specs.Object.{object_of}
@@ -40,7 +41,7 @@ run_due file seed = unless_refused (refusal_of file) (accepted_due file seed)
 
 -- the text that lists the file's image
 abbrev pub check_due : List ℕ → Due
-check_due file = unless_refused (refusal_of file) (text_due (listing_of (loaded_image file) (mapped_by (segments_of file))))
+check_due file = unless_refused (refusal_of file) (text_due (listing_of (bound_image file) (mapped_by (segments_of file))))
 
 -- the file of the source's object, stored under the target
 abbrev pub asm_due : (target source : List ℕ) → Due

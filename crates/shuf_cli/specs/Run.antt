@@ -1,13 +1,12 @@
 -- What a run of a file comes to, by the unmoved machine alone.
-use Rattle.std.specs.Prelude.{ℕ, true, false, List, [], Option, Some, None, if◌then◌else◌, nat_lt, IfSome, ◌≡◌}
+use Rattle.std.specs.Prelude.{ℕ, Bool, true, false, List, [], Option, Some, None, if◌then◌else◌, nat_lt, IfSome, ◌≡◌}
 use Rattle.sh_types.specs.declared.code.Image.{Image}
 use Rattle.sh_types.specs.declared.runs.End.{End}
 use Rattle.sh_types.specs.declared.runs.End.TheVariants.{Exit, Trapped, Leak}
 use Rattle.sh_machines.specs.Serial.{Schedule, serial_list}
-use Rattle.elf_rules.specs.Thin.{thin_image}
+use Rattle.image_rules.specs.Thin.{thin_image}
 use Rattle.shuf_machine.specs.declared.answers.Origin.{Origin}
-use Rattle.shuf_machine.specs.Past.{Past, guest_of}
-use Rattle.shuf_machine.specs.Run.{image_of}
+use Rattle.shuf_machine.specs.Past.{Past, guest_of, opening}
 use Rattle.hart_runner.specs.Built.{is_built, exits_or}
 use Rattle.period_report.specs.declared.writer.Form.TheVariants.{Short}
 use Rattle.period_report.specs.Text.{report_text}
@@ -28,13 +27,17 @@ no_input = []
 abbrev pub origin_of : (file seed : List ℕ) → Origin
 origin_of file seed = record { file = file; input = no_input; seed = seed }
 
--- what a run of the file leaves: the journal is that of the serial order
-abbrev pub past_of : (file seed : List ℕ) → Past
-past_of file seed = record { origin = origin_of file seed; journal = serial_list (image_of file) no_input schedule }
+-- what the run of a machine that has done nothing leaves: the journal is that of the serial order
+abbrev pub run_of : Past → Past
+run_of m = record m { journal = serial_list m.image m.origin.input schedule }
+
+-- what a run of the file's image leaves
+abbrev pub past_of : Image → (file seed : List ℕ) → Past
+past_of image file seed = run_of (opening image (origin_of file seed))
 
 -- the short report on a run
 abbrev pub report_of : Past → List ℕ
-report_of m = report_text Short m.origin default_period m.journal
+report_of m = report_text Short m.image m.origin default_period m.journal
 
 -- the status of a run, by its end: the run may go on after its last instruction
 abbrev pub run_status : Option End → ℕ
@@ -57,14 +60,22 @@ ran_due m = record {
 abbrev pub not_built_due : Due
 not_built_due = line_due 12 not_built_line
 
--- the unmoved machine comes to an exit with what is built, and the run is made
-abbrev pub built_due : (file seed : List ℕ) → Due
-built_due file seed = if is_built default_period (image_of file) no_input then ran_due (past_of file seed) else not_built_due
+-- by whether the run is made
+abbrev pub made_due : Bool → Past → Due
+made_due built m = if built then ran_due m else not_built_due
+
+-- of a machine that has done nothing: the run is made where the unmoved machine comes to an exit with what is built
+abbrev pub run_due_of : Past → Due
+run_due_of m = made_due (is_built default_period m.image m.origin.input) (run_of m)
+
+-- of the file's image
+abbrev pub built_due : Image → (file seed : List ℕ) → Due
+built_due image file seed = run_due_of (opening image (origin_of file seed))
 
 -- of an accepted file: a thin one alone is run
 abbrev pub thin_due : Option Image → (file seed : List ℕ) → Due
 thin_due None file seed = not_built_due
-thin_due (Some image) file seed = built_due file seed
+thin_due (Some image) file seed = built_due image file seed
 
 -- a run of an accepted file
 abbrev pub accepted_due : (file seed : List ℕ) → Due

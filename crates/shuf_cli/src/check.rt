@@ -1,6 +1,7 @@
 //! What is due for a check of a file.
 ghost use Rattle.std.specs.Prelude.{◌≡◌, IfOk};
-ghost use Rattle.elf_rules.specs.Accepted.{Accepts, mapped_by, loaded_image};
+ghost use Rattle.elf_rules.specs.Accepted.{Accepts, mapped_by};
+ghost use Rattle.image_rules.specs.Bound.{bound_image};
 ghost use Rattle.elf_rules.specs.Coded.{IsCoded};
 ghost use Rattle.elf_rules.specs.Elf.{segments_of};
 ghost use Rattle.image_text.specs.Listing.{listing_of};
@@ -19,9 +20,9 @@ use std::thread::Threads;
 /// The text that lists the image of the file is due.
 fn listed(alloc: Global, image: &Image, file: &[u8]) -> Result<Due, NoMemory>
     requires accepted { Accepts file.now }
-    requires image { image.now ≡ loaded_image file.now }
+    requires image { image.now ≡ bound_image file.now }
     requires coded { IsCoded image.now }
-    ensures { IfOk result (λ due. due ≡ text_due (listing_of (loaded_image file.now) (mapped_by (segments_of file.now)))) }
+    ensures { IfOk result (λ due. due ≡ text_due (listing_of (bound_image file.now) (mapped_by (segments_of file.now)))) }
 {
     let mapped = mapped_bytes(alloc, file)?;
     Ok(text(listing(alloc, image, mapped)?))

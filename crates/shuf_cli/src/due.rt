@@ -35,3 +35,10 @@ pub struct Done {
     pub end: Option<End>,
     pub machine: Option<Machine>,
 }
+
+/// How what is due was delivered: the status, and whether no store failed.
+#[derive(Clone, Copy, Debug)]
+pub struct Outcome {
+    pub status: u8,
+    pub stored: bool,
+}

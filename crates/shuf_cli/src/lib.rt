@@ -16,7 +16,7 @@ mod run;
 mod top;
 mod words;
 
-pub use due::{Done, Due, FileOr, FileStore};
+pub use due::{Done, Due, FileOr, FileStore, Outcome};
 pub use laws::{answers_are_said, dues_are_said, held_files_are_loaded};
 pub use main_call::shuffler_main;
 pub use pace::runs_keep_pace;

@@ -56,11 +56,11 @@ pub fn unreadable(alloc: Global, name: &str) -> Result<Due, NoMemory>
 }
 
 #[tactic(auto, unfolding(crate::specs::Lines::unwritable_line))]
-pub fn unwritable(alloc: Global, name: &str) -> Result<Due, NoMemory>
-    ensures { IfOk result (λ due. due ≡ line_due 11 (unwritable_line name.now)) }
+pub fn unwritable(alloc: Global, name: &str) -> Result<Bytes, NoMemory>
+    ensures { IfOk result (λ line. line ≡ unwritable_line name.now) }
 {
     let line = format!(in alloc; "shuffler: file {name} cannot be written\n")?;
-    Ok(refusal(11, line))
+    Ok(Bytes::from_vec(line.into_bytes()))
 }
 
 fn digits(alloc: Global, number: u64) -> Result<String, AllocError>

@@ -1,28 +1,13 @@
 //! The top call: all that the program does.
-ghost use Rattle.std.specs.Prelude.{◌≡◌, None};
 ghost use Rattle.shuf_cli.specs.Words.{texts, command_of};
 ghost use Rattle.shuf_cli.specs.Headline.{Answered};
 
 use crate::Done;
-use crate::deliver::deliver;
+use crate::deliver::{deliver, finish, no_memory};
 use crate::rows::make_due;
 use sh_base::{Files, Sink};
-use sh_types::NoMemory;
 use std::alloc::Global;
 use std::thread::Threads;
-
-const NO_MEMORY: u8 = 14;
-
-/// The answer where memory was refused.
-fn no_memory() -> Done
-    ensures { result ≡ record { status = 14; end = None; machine = None } }
-{
-    Done {
-        status: NO_MEMORY,
-        end: None,
-        machine: None,
-    }
-}
 
 /// Does a command: `words` are those of the command line, `seed` is that of the layouts. It loads from `files`. For a
 /// run it writes to `out` what the guest wrote and to `report` the report on the run; for a check it writes to `out`
@@ -51,8 +36,6 @@ pub fn serial_command<R: Threads + Sync, F: Files, O: Sink, E: Sink>(
     let Ok(due) = make_due(rt, alloc, words, files, seed) else {
         return no_memory();
     };
-    match deliver(alloc, due, files, out, report) {
-        Ok(done) => done,
-        Err(NoMemory) => no_memory(),
-    }
+    let outcome = deliver(alloc, &due, files, out, report);
+    finish(due, outcome)
 }
