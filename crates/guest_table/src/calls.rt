@@ -1,7 +1,7 @@
 //! What the tests call of the library, over the first guest's file and under the seed of zeros.
 ghost use Rattle.std.specs.Prelude.{◌≡◌, Some, IfOk, IfSome};
 ghost use Rattle.sh_machines.specs.Runnable.{IsRunnable};
-ghost use Rattle.elf_rules.specs.Thin.{thin_image};
+ghost use Rattle.image_rules.specs.Thin.{thin_image};
 
 use elf_rules::LoadFault;
 use elf_table::patches::first_file;
@@ -16,7 +16,7 @@ use thin_image::classify;
 use thin_law::thin_images_are_fine;
 
 /// The image of the file with these bytes; None where the file is refused or is not thin.
-#[tactic(auto, unfolding(elf_rules::specs::Thin::thin_image))]
+#[tactic(auto, unfolding(image_rules::specs::Thin::thin_image))]
 fn read_thin<R: Threads + Sync>(
     rt: &R,
     alloc: Global,
@@ -116,4 +116,16 @@ pub fn top<R: Threads + Sync>(
     report: &mut MemSink,
 ) -> Done {
     serial_command(rt, alloc, words, files, out, report, &[0; 32])
+}
+
+/// The status of the top call.
+pub fn status<R: Threads + Sync>(
+    rt: &R,
+    alloc: Global,
+    words: &[String],
+    files: &mut MemFiles,
+    out: &mut MemSink,
+    report: &mut MemSink,
+) -> u8 {
+    top(rt, alloc, words, files, out, report).status
 }

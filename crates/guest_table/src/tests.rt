@@ -1,10 +1,14 @@
 //! The first guest has two functions, of which the first stores `hi` and a line feed on its stack, calls the second,
 //! and makes the calls 64 and 93: 17 instructions. The places are those of the first layout under the seed of zeros.
-use crate::calls::{first_files, run_first, sink_of, top, words_of};
+use crate::calls::{first_files, run_first, sink_of, status, top, words_of};
+use sh_base::{MemFiles, MemSink};
 use sh_types::{End, Event, FetchLog};
+use shuf_cli::Done;
 use shuf_machine::{Machine, MachineNo, No};
+use std::alloc::Global;
 use std::process::Abort;
 use std::test::Fail;
+use std::thread::Threads;
 
 /// The address of the first word of the first function, and of its environment call.
 const ENTRY: u64 = 0x476b_eab4;
@@ -43,7 +47,26 @@ fn compare_turns(rt: &impl Abort, machine: &Option<Machine>, counts: [u64; 3]) {
     }
 }
 
-/// The run was made, and its machine is handed out all the same.
+/// Compares the answer where the output failed: the run was made, and its machine is handed out all the same.
+fn compare_failed(rt: &impl Abort, done: &Done) {
+    assert_eq!(rt; done.status, 13);
+    assert_eq!(rt; done.end, Some(End::Exit { code: 0 }));
+    compare_turns(rt, &done.machine, [13, 3, 1]);
+}
+
+/// A run whose output fails.
+fn run_failing<R: Threads + Sync + Abort>(
+    rt: &R,
+    alloc: Global,
+    words: &[String],
+    files: &mut MemFiles,
+    out: &mut MemSink,
+    report: &mut MemSink,
+) {
+    let done = top(rt, alloc, words, files, out, report);
+    compare_failed(rt, &done);
+}
+
 #[test]
 fn an_output_that_fails(rt: HostRuntime) -> Result<(), Fail> {
     let alloc = rt.alloc();
@@ -51,11 +74,8 @@ fn an_output_that_fails(rt: HostRuntime) -> Result<(), Fail> {
     let mut files = first_files(alloc, None)?;
     let mut out = sink_of(alloc, Some(0))?;
     let mut report = sink_of(alloc, None)?;
-    let done = top(&rt, alloc, &words, &mut files, &mut out, &mut report);
-    assert_eq!(rt; done.status, 13);
-    assert_eq!(rt; done.end, Some(End::Exit { code: 0 }));
+    run_failing(&rt, alloc, &words, &mut files, &mut out, &mut report);
     assert_eq!(rt; out.content().len() + report.content().len(), 0);
-    compare_turns(&rt, &done.machine, [13, 3, 1]);
     Ok(())
 }
 
@@ -67,11 +87,15 @@ fn a_load_that_fails(rt: HostRuntime) -> Result<(), Fail> {
     let mut files = first_files(alloc, Some(1))?;
     let mut out = sink_of(alloc, None)?;
     let mut report = sink_of(alloc, None)?;
-    let done = top(&rt, alloc, &words, &mut files, &mut out, &mut report);
-    assert_eq!(rt; done.status, 0);
+    assert_eq!(rt;
+        status(&rt, alloc, &words, &mut files, &mut out, &mut report),
+        0
+    );
     assert_eq!(rt; report.content().len(), 0);
-    let done = top(&rt, alloc, &words, &mut files, &mut out, &mut report);
-    assert_eq!(rt; done.status, 11);
+    assert_eq!(rt;
+        status(&rt, alloc, &words, &mut files, &mut out, &mut report),
+        11
+    );
     assert_eq!(rt;
         report.content(),
         b"shuffler: file a.elf cannot be read\n".as_slice()

@@ -2,7 +2,7 @@
 ghost use Rattle.std.specs.Prelude.{◌≡◌, Some, IfOk, IfSome};
 ghost use Rattle.sh_types.specs.Image.{sizes_of};
 ghost use Rattle.sh_machines.specs.Runnable.{IsRunnable};
-ghost use Rattle.elf_rules.specs.Thin.{thin_image};
+ghost use Rattle.image_rules.specs.Thin.{thin_image};
 
 use code_copier::copy;
 use elf_rules::LoadFault;
@@ -40,7 +40,7 @@ pub fn first_copy(alloc: Global, _file: &[u8], image: &Image) -> Result<CodeCopy
 }
 
 /// The image of the file with these bytes; None where the file is refused or is not thin.
-#[tactic(auto, unfolding(elf_rules::specs::Thin::thin_image))]
+#[tactic(auto, unfolding(image_rules::specs::Thin::thin_image))]
 fn read_thin<R: Threads + Sync>(
     rt: &R,
     alloc: Global,

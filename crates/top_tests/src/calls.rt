@@ -58,17 +58,49 @@ pub struct Told {
     pub report: Bytes,
 }
 
-fn with_sinks(
-    alloc: Global,
-    done: Done,
-    out: &MemSink,
-    report: &MemSink,
-) -> Result<Told, AllocError> {
-    Ok(Told {
+/// What two sinks hold.
+#[derive(Drop)]
+struct Held {
+    out: Bytes,
+    report: Bytes,
+}
+
+fn held_by(alloc: Global, out: &MemSink, report: &MemSink) -> Result<Held, AllocError> {
+    let out = Bytes::from_slice(alloc, out.content())?;
+    let report = Bytes::from_slice(alloc, report.content())?;
+    Ok(Held { out, report })
+}
+
+fn with_sinks(done: Done, held: Held) -> Told {
+    Told {
         done,
-        out: Bytes::from_slice(alloc, out.content())?,
-        report: Bytes::from_slice(alloc, report.content())?,
-    })
+        out: held.out,
+        report: held.report,
+    }
+}
+
+/// The top call. It says nothing of its own, so that its callers stay small.
+fn top<R: Threads + Sync>(
+    rt: &R,
+    alloc: Global,
+    words: &[String],
+    files: &mut MemFiles,
+    out: &mut MemSink,
+    report: &mut MemSink,
+) -> Done {
+    serial_command(rt, alloc, words, files, out, report, &[0; 32])
+}
+
+/// The same with workers.
+fn top_main<R: Threads + Wait + Sync>(
+    rt: &R,
+    alloc: Global,
+    words: &[String],
+    files: &mut MemFiles,
+    out: &mut MemSink,
+    report: &mut MemSink,
+) -> Done {
+    shuffler_main(rt, alloc, words, files, out, report, &[0; 32], &NoGate)
 }
 
 /// Does a command.
@@ -82,9 +114,9 @@ pub fn call<R: Threads + Sync>(
     let words = words_of(alloc, words)?;
     let mut out = sink_of(alloc, fails == Fails::Out)?;
     let mut report = sink_of(alloc, fails == Fails::Report)?;
-    let seed = [0; 32];
-    let done = serial_command(rt, alloc, &words, files, &mut out, &mut report, &seed);
-    with_sinks(alloc, done, &out, &report)
+    let done = top(rt, alloc, &words, files, &mut out, &mut report);
+    let held = held_by(alloc, &out, &report)?;
+    Ok(with_sinks(done, held))
 }
 
 /// The same by the call with workers.
@@ -97,16 +129,7 @@ pub fn call_main<R: Threads + Wait + Sync>(
     let words = words_of(alloc, words)?;
     let mut out = sink_of(alloc, false)?;
     let mut report = sink_of(alloc, false)?;
-    let seed = [0; 32];
-    let done = shuffler_main(
-        rt,
-        alloc,
-        &words,
-        files,
-        &mut out,
-        &mut report,
-        &seed,
-        &NoGate,
-    );
-    with_sinks(alloc, done, &out, &report)
+    let done = top_main(rt, alloc, &words, files, &mut out, &mut report);
+    let held = held_by(alloc, &out, &report)?;
+    Ok(with_sinks(done, held))
 }

@@ -100,7 +100,7 @@ fn long_files(rt: HostRuntime) -> Result<(), Fail> {
 }
 
 /// The list of the first guest's file.
-const LIST: &str = "accepted functions 2 code 68 mapped 68 entry f0
+const LIST: &str = "accepted functions 2 rows 0 code 68 mapped 68 entry f0
 f0 0x10000 size 60 start
 f1 0x1003c size 8 three
 ";

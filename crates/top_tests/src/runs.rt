@@ -1,7 +1,7 @@
 //! Machines that run a few instructions.
 ghost use Rattle.std.specs.Prelude.{◌≡◌, Some, IfOk, IfSome};
 ghost use Rattle.sh_machines.specs.Runnable.{IsRunnable};
-ghost use Rattle.elf_rules.specs.Thin.{thin_image};
+ghost use Rattle.image_rules.specs.Thin.{thin_image};
 
 use elf_rules::LoadFault;
 use guest_image::load_image;
@@ -14,7 +14,7 @@ use thin_image::classify;
 use thin_law::thin_images_are_fine;
 
 /// The image of the file with these bytes; None where the file is refused or is not thin.
-#[tactic(auto, unfolding(elf_rules::specs::Thin::thin_image))]
+#[tactic(auto, unfolding(image_rules::specs::Thin::thin_image))]
 fn read_thin<R: Threads + Sync>(
     rt: &R,
     alloc: Global,
