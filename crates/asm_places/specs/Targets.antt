@@ -5,7 +5,7 @@ use Rattle.asm_text.specs.declared.statements.Statement.TheVariants as statement
 use Rattle.asm_text.specs.declared.statements.Item.{Item}
 use Rattle.asm_places.specs.declared.places.Place.{Place}
 use Rattle.asm_places.specs.declared.targets.Target.{Target}
-use Rattle.asm_text.specs.Tables.{first_of}
+use Rattle.asm_words.specs.Tables.{first_of}
 use Rattle.asm_places.specs.Places.{place_after, first_place}
 use Rattle.asm_places.specs.Names.{key_of, same_key}
 use Rattle.asm_places.specs.Ranges.{is_from}

@@ -1,6 +1,6 @@
 //! The symbols of a source, and their numbers.
 ghost use Rattle.std.specs.Prelude.{◌≡◌, ◌≤◌, ◌<◌, ◌+◌, ◌^◌, ◌++◌, ◌∷◌, [], ℕ, List, false, Some, None, map, length, if◌then◌else◌, IfOk, OnOk};
-ghost use Rattle.asm_text.specs.Tables.{first_of};
+ghost use Rattle.asm_words.specs.Tables.{first_of};
 ghost use Rattle.asm_places.specs.Names.{same_key};
 ghost use Rattle.asm_places.specs.Places.{first_place};
 ghost use Rattle.asm_places.specs.Ranges.{is_past, range_line};

@@ -1,6 +1,6 @@
 //! What names stand for.
 ghost use Rattle.std.specs.Prelude.{◌≡◌, ◌≤◌, ◌<◌, ◌^◌, ℕ, List, true, false, None, length, IfOk, OnOk, option_map};
-ghost use Rattle.asm_text.specs.Tables.{first_of};
+ghost use Rattle.asm_words.specs.Tables.{first_of};
 ghost use Rattle.asm_places.specs.Places.{place_after as place_after_of, first_place};
 ghost use Rattle.asm_places.specs.Ranges.{is_in_range, is_past, range_line};
 ghost use Rattle.asm_places.specs.Maps.{has_at, defines, defines_by};

@@ -4,13 +4,14 @@ use Rattle.std.specs.Prelude.{Option, Some, None, Result, Ok, Err, map, option_m
 use Rattle.std.proofs.lemmas.List.{append-nil}
 use Rattle.asm_text.specs.declared.statements.Statement.{Statement}
 use Rattle.asm_text.specs.declared.statements.Item.{Item}
-use Rattle.asm_text.specs.declared.statements.Unread.{Unread}
-use Rattle.asm_text.specs.declared.statements.Unread.TheVariants.{NoMemory, Form}
+use Rattle.asm_words.specs.declared.faults.Unread.{Unread}
+use Rattle.asm_words.specs.declared.faults.Unread.TheVariants.{NoMemory, Form}
 use Rattle.asm_text.specs.declared.statements.Statement.TheVariants as statement
-use Rattle.asm_text.specs.Characters.{cut, led, trimmed}
-use Rattle.asm_text.specs.Numbers.{◌>>=◌}
+use Rattle.asm_words.specs.Characters.{cut, led, trimmed}
+use Rattle.asm_words.specs.Numbers.{◌>>=◌}
 use Rattle.asm_text.specs.Statements.{parts, in_front, each, alone_in, label_of, unlabelled, statement_of}
-use Rattle.asm_text.specs.Reading.{Fails, Grows, item, extended}
+use Rattle.asm_words.specs.Results.{Fails}
+use Rattle.asm_text.specs.Reading.{Grows, item, extended}
 
 pub one_more : (old : List Item) (line : ℕ) (s : Statement) → extended old line (Some (s ∷ [])) ≡ Some (old ++ item line s ∷ [])
 unfolding extended

@@ -5,24 +5,26 @@ use Rattle.std.specs.List.{list_any}
 use Rattle.asm_text.specs.declared.faults.AsmRule.TheVariants.{Text}
 use Rattle.asm_text.specs.declared.lines.Quote.{Quote}
 use Rattle.asm_text.specs.declared.lines.Quote.TheVariants.{Outside}
-use Rattle.asm_text.specs.declared.shapes.Plain.{Plain}
-use Rattle.asm_text.specs.declared.shapes.Plain.TheVariants as plain
-use Rattle.asm_text.specs.declared.shapes.Naming.{Naming}
-use Rattle.asm_text.specs.declared.shapes.Naming.TheVariants as naming
-use Rattle.asm_text.specs.declared.shapes.Shape.{Shape}
-use Rattle.asm_text.specs.declared.shapes.Shape.TheVariants as shape
+use Rattle.asm_words.specs.declared.shapes.Plain.{Plain}
+use Rattle.asm_words.specs.declared.shapes.Plain.TheVariants as plain
+use Rattle.asm_words.specs.declared.shapes.Naming.{Naming}
+use Rattle.asm_words.specs.declared.shapes.Naming.TheVariants as naming
+use Rattle.asm_words.specs.declared.shapes.Shape.{Shape}
+use Rattle.asm_words.specs.declared.shapes.Shape.TheVariants as shape
 use Rattle.asm_text.specs.declared.statements.Statement.{Statement}
 use Rattle.asm_text.specs.declared.statements.Statement.TheVariants as statement
 use Rattle.asm_text.specs.declared.statements.Item.{Item}
-use Rattle.asm_text.specs.Characters.{cut, led, before, from, is_blank, is_name, joined, trimmed, trimmed_start, trimmed_end, is_foreign}
-use Rattle.asm_text.specs.Mnemonics.{shape_of}
-use Rattle.asm_text.specs.Numbers.{magnitude, signed, number_of, string_of}
+use Rattle.asm_words.specs.Characters.{cut, led, before, from, is_blank, is_name, joined, trimmed, trimmed_start, trimmed_end, is_foreign}
+use Rattle.asm_words.specs.Mnemonics.{shape_of}
+use Rattle.asm_words.specs.Strings.{string_of}
+use Rattle.asm_words.specs.Numbers.{magnitude, signed, number_of}
 use Rattle.asm_text.specs.Reading.{item, extended}
 use Rattle.asm_text.specs.Sizes.{defined_size, items_size}
-use Rattle.asm_text.specs.Registers.{register_of}
+use Rattle.asm_words.specs.Registers.{register_of}
 use Rattle.asm_text.specs.Source.{Read, read, fault, next, is_end, is_comment, pieces, statements_in, line_of, behind_line, read_lines, source_of}
-use Rattle.asm_text.specs.Statements.{is_nothing, in_front, name_of, register_form, immediate_form, memory_form, store_form, upper_form, atomic_form, reserve_form, alone, register_first, register_and_number, register_and_name, indexed, based, move_form, to_register_form, literal_form, plain_of, branch_form, branch_zero_form, jump_form, address_form, naming_of, each, value_of, values_of, alone_in, body_of, unlabelled, label_of, statement_of, parts}
-use Rattle.asm_text.proofs.Trimming.{start_no}
+use Rattle.asm_words.specs.Operands.{is_nothing, name_of, register_first, register_and_number, register_and_name, indexed, based}
+use Rattle.asm_text.specs.Statements.{in_front, register_form, immediate_form, memory_form, store_form, upper_form, atomic_form, reserve_form, alone, move_form, to_register_form, literal_form, plain_of, branch_form, branch_zero_form, jump_form, address_form, naming_of, each, value_of, values_of, alone_in, body_of, unlabelled, label_of, statement_of, parts}
+use Rattle.asm_words.proofs.Trimming.{start_no}
 
 -- what is there has the property
 record Good {A : Type 0} (P : A → Type 0) (o : Option A) : Type 0 where

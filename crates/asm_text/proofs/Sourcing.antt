@@ -5,14 +5,15 @@ use Rattle.std.specs.List.{list_any}
 use Rattle.std.proofs.lemmas.List.{append-nil}
 use Rattle.asm_text.specs.declared.statements.Statement.{Statement}
 use Rattle.asm_text.specs.declared.statements.Item.{Item}
-use Rattle.asm_text.specs.declared.statements.Unread.{Unread}
-use Rattle.asm_text.specs.declared.statements.Unread.TheVariants.{NoMemory, Form}
+use Rattle.asm_words.specs.declared.faults.Unread.{Unread}
+use Rattle.asm_words.specs.declared.faults.Unread.TheVariants.{NoMemory, Form}
 use Rattle.asm_text.specs.declared.faults.AsmRule.TheVariants as rule
 use Rattle.asm_text.specs.declared.lines.Quote.TheVariants.{Outside}
-use Rattle.asm_text.specs.Characters.{is_foreign}
-use Rattle.asm_text.specs.Numbers.{◌>>=◌}
+use Rattle.asm_words.specs.Characters.{is_foreign}
+use Rattle.asm_words.specs.Numbers.{◌>>=◌}
 use Rattle.asm_text.specs.Statements.{statement_of}
-use Rattle.asm_text.specs.Reading.{Fails, item, extended}
+use Rattle.asm_words.specs.Results.{Fails}
+use Rattle.asm_text.specs.Reading.{item, extended}
 use Rattle.asm_text.specs.Source.{pieces, statements_in, line_of, read_lines, Read, read, fault}
 use Rattle.asm_text.proofs.Growing.{none_of}
 

@@ -1,10 +1,5 @@
-pub mod Characters
-pub mod Mnemonics
-pub mod Numbers
 pub mod Reading
-pub mod Registers
 pub mod Seen
 pub mod Sizes
 pub mod Source
 pub mod Statements
-pub mod Tables

@@ -1,19 +1,9 @@
--- What functions that may be refused memory return.
-use Rattle.std.specs.Prelude.{◌≡◌, ℕ, Option, Some, None, Result, Ok, Err, List, [], ◌++◌, map, option_map}
+-- What functions return that add the statements of a line and may be refused memory.
+use Rattle.std.specs.Prelude.{◌≡◌, ℕ, Option, Some, Result, Ok, Err, List, [], ◌++◌, map, option_map}
+use Rattle.asm_words.specs.declared.faults.Unread.{Unread}
+use Rattle.asm_words.specs.Results.{Fails}
 use Rattle.asm_text.specs.declared.statements.Statement.{Statement}
 use Rattle.asm_text.specs.declared.statements.Item.{Item}
-use Rattle.asm_text.specs.declared.statements.Unread.{Unread}
-use Rattle.asm_text.specs.declared.statements.Unread.TheVariants.{NoMemory, Form}
-
--- memory was refused, or the text gives nothing
-abbrev pub Fails : {Y : Type 0} → Unread → Option Y → Type 0
-Fails NoMemory read = Unit {0}
-Fails Form read = read ≡ None
-
--- what was returned, seen by view, is what the text gives, unless memory was refused
-abbrev pub Gives : {X Y : Type 0} → (X → Y) → Result X Unread → Option Y → Type 0
-Gives view (Ok x) read = read ≡ Some (view x)
-Gives view (Err e) read = Fails e read
 
 abbrev pub item : ℕ → Statement → Item
 item line s = record { line = line; statement = s }

@@ -8,8 +8,8 @@ use Rattle.asm_text.specs.declared.statements.Item.{Item}
 use Rattle.asm_text.specs.declared.faults.AsmRule.{AsmRule}
 use Rattle.asm_text.specs.declared.faults.AsmRule.TheVariants as rule
 use Rattle.asm_text.specs.declared.faults.LineFault.{LineFault}
-use Rattle.asm_text.specs.Characters.{is_foreign}
-use Rattle.asm_text.specs.Numbers.{◌>>=◌}
+use Rattle.asm_words.specs.Characters.{is_foreign}
+use Rattle.asm_words.specs.Numbers.{◌>>=◌}
 use Rattle.asm_text.specs.Statements.{parts, in_front, statement_of}
 use Rattle.asm_text.specs.Reading.{extended}
 

@@ -6,10 +6,10 @@ ghost use Rattle.asm_text.specs.Statements.{parts};
 ghost use Rattle.asm_text.specs.Source.{next as next_of, is_end as is_end_of, is_comment as is_comment_of, pieces, line_of, source_of, read as read_of, fault};
 ghost use Rattle.asm_text.specs.Seen.{seen};
 
-use crate::characters::{cut, has_foreign};
 use crate::faults::{AsmRule, LineFault};
 use crate::reading::push_statement;
-use crate::statements::{Item, Unread};
+use crate::statements::Item;
+use asm_words::{Unread, cut, has_foreign};
 use sh_types::{Items, NoMemory};
 use std::alloc::Global;
 

@@ -1,11 +1,10 @@
 //! Statements with names.
 ghost use Rattle.std.specs.Prelude.{◌≡◌};
-ghost use Rattle.asm_text.specs.Reading.{Gives};
+ghost use Rattle.asm_words.specs.Results.{Gives};
 ghost use Rattle.asm_text.specs.Statements.{branch_form as branch_form_of, branch_zero_form as branch_zero_form_of, jump_form as jump_form_of, address_form as address_form_of, naming_of};
 
-use crate::operands::{name, register_and_name, register_first};
-use crate::shapes::Naming;
-use crate::statements::{Statement, Unread};
+use crate::statements::Statement;
+use asm_words::{Naming, Unread, name, register_and_name, register_first};
 use rv_table::Op;
 use std::alloc::Global;
 

@@ -1,66 +1,17 @@
 //! The statements of one text between `;`s.
-ghost use Rattle.std.specs.Prelude.{◌≡◌, ◌∷◌, [], false, option_map, Some};
-ghost use Rattle.asm_text.specs.Numbers.{quoted, string_of};
-ghost use Rattle.asm_text.specs.Mnemonics.{shape_of};
-ghost use Rattle.asm_text.specs.Reading.{Gives, Grows};
+ghost use Rattle.std.specs.Prelude.{◌≡◌, ◌∷◌, [], option_map, Some};
+ghost use Rattle.asm_words.specs.Results.{Gives};
+ghost use Rattle.asm_text.specs.Reading.{Grows};
 ghost use Rattle.asm_text.specs.Statements.{value_of, values_of, alone_in, body_of, unlabelled as unlabelled_of, label_of, statement_of};
 
-use crate::characters::{cut, first_word, is_name, trimmed};
 use crate::forms::plain;
-use crate::mnemonics::shape;
 use crate::naming::naming;
-use crate::numbers::{escape, number};
-use crate::operands::name;
-use crate::shapes::Shape;
-use crate::statements::{Item, Statement, Unread};
-use sh_types::{Bytes, SymbolName};
+use crate::statements::{Item, Statement};
+use asm_words::{
+    Shape, Unread, cut, first_word, is_name, name, number, shape_named, string, trimmed,
+};
+use sh_types::SymbolName;
 use std::alloc::Global;
-
-#[tactic(auto, using(crate::proofs::Words::no_shape))]
-fn shape_named(word: &[u8]) -> Option<Shape>
-    ensures { result ≡ shape_of word.now }
-{
-    match str::from_utf8(word) {
-        Ok(name) => shape(name),
-        Err(_) => None,
-    }
-}
-
-#[tactic(auto, using(crate::proofs::Quoting::escape_more, crate::proofs::Quoting::escape_none, crate::proofs::Quoting::quote_last, crate::proofs::Quoting::quote_early, crate::proofs::Quoting::escape_begins, crate::proofs::Quoting::plain_more, crate::proofs::Quoting::unclosed))]
-fn unquoted(alloc: Global, text: &[u8]) -> Result<Vec<u8>, Unread>
-    ensures { Gives (λ v. v.items) result (quoted false text.now) }
-{
-    let mut bytes = Vec::new(alloc);
-    let mut escaped = false;
-    for (i, c) in text.iter().enumerate() {
-        if escaped {
-            bytes.push(escape(*c).ok_or(Unread::Form)?)?;
-            escaped = false;
-        } else if *c == b'"' {
-            return if i + 1 == text.len() {
-                Ok(bytes)
-            } else {
-                Err(Unread::Form)
-            };
-        } else if *c == b'\\' {
-            escaped = true;
-        } else {
-            bytes.push(*c)?;
-        }
-    }
-    Err(Unread::Form)
-}
-
-#[tactic(auto, unfolding(crate::specs::Numbers::string_of))]
-fn string(alloc: Global, text: &[u8]) -> Result<Bytes, Unread>
-    ensures { Gives (λ b. b) result (string_of text.now) }
-{
-    let text = trimmed(text);
-    if text.is_empty() || text[0] != b'"' {
-        return Err(Unread::Form);
-    }
-    Ok(Bytes::from_vec(unquoted(alloc, &text[1..])?))
-}
 
 #[tactic(auto, unfolding(crate::specs::Statements::value_of))]
 fn value(alloc: Global, width: u8, names: bool, text: &[u8]) -> Result<Statement, Unread>

@@ -1,10 +1,6 @@
 //! Statements of the source language as data.
-ghost use Rattle.std.specs.Prelude.{◌≡◌};
-ghost use Rattle.asm_text.specs.declared.statements.Unread.TheVariants as unread;
-
 use rv_table::Op;
 use sh_types::{Bytes, SymbolName};
-use std::alloc::{AllocError, AllocFailed};
 
 /// A statement, or a part of one that stands for itself: a label, and each value of `.byte`, `.word` and `.quad`. A
 /// number of 2^64 or more, which is out of each range, is kept as 2^64, and one of -2^64 or less as -2^64.
@@ -105,27 +101,4 @@ pub enum Statement {
 pub struct Item {
     pub line: u32,
     pub statement: Statement,
-}
-
-/// Why there is no statement: memory was refused, or the text is none.
-#[derive(Clone, Copy, Debug, PartialEq, Eq)]
-pub enum Unread {
-    NoMemory,
-    Form,
-}
-
-impl From<AllocError> for Unread {
-    ghost from_gives = { λ _ e. e ≡ unread.NoMemory };
-
-    fn from(_: AllocError) -> Self {
-        Unread::NoMemory
-    }
-}
-
-impl<T: Drop> From<AllocFailed<T>> for Unread {
-    ghost from_gives = { λ _ e. e ≡ unread.NoMemory };
-
-    fn from(_: AllocFailed<T>) -> Self {
-        Unread::NoMemory
-    }
 }

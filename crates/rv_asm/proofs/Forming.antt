@@ -12,23 +12,25 @@ use Rattle.rv_table.specs.declared.instructions.Op.{Op}
 use Rattle.rv_table.specs.declared.instructions.Op.TheVariants.{Addi, Jalr}
 use Rattle.asm_text.specs.declared.faults.AsmRule.TheVariants.{Text}
 use Rattle.asm_text.specs.declared.lines.Quote.TheVariants.{Outside}
-use Rattle.asm_text.specs.declared.shapes.Plain.{Plain}
-use Rattle.asm_text.specs.declared.shapes.Plain.TheVariants as plain
-use Rattle.asm_text.specs.declared.shapes.Naming.{Naming}
-use Rattle.asm_text.specs.declared.shapes.Naming.TheVariants as naming
-use Rattle.asm_text.specs.declared.shapes.Shape.{Shape}
-use Rattle.asm_text.specs.declared.shapes.Shape.TheVariants as shape
+use Rattle.asm_words.specs.declared.shapes.Plain.{Plain}
+use Rattle.asm_words.specs.declared.shapes.Plain.TheVariants as plain
+use Rattle.asm_words.specs.declared.shapes.Naming.{Naming}
+use Rattle.asm_words.specs.declared.shapes.Naming.TheVariants as naming
+use Rattle.asm_words.specs.declared.shapes.Shape.{Shape}
+use Rattle.asm_words.specs.declared.shapes.Shape.TheVariants as shape
 use Rattle.asm_text.specs.declared.statements.Statement.{Statement}
 use Rattle.asm_text.specs.declared.statements.Statement.TheVariants as statement
 use Rattle.asm_text.specs.declared.statements.Item.{Item}
-use Rattle.asm_text.specs.Characters.{before, from, is_blank, trimmed, is_foreign}
-use Rattle.asm_text.specs.Mnemonics.{register_rows, immediate_rows, memory_rows, store_rows, branch_rows, upper_rows, atomic_rows, reserve_rows, bare_rows, plain_rows, naming_rows, value_rows, instruction_shape, shape_of}
-use Rattle.asm_text.specs.Numbers.{◌>>=◌, number_of, string_of}
+use Rattle.asm_words.specs.Characters.{before, from, is_blank, trimmed, is_foreign}
+use Rattle.asm_words.specs.Mnemonics.{base_rows, product_rows, low_word_rows, register_rows, immediate_rows, memory_rows, store_rows, branch_rows, upper_rows, atomic_word_rows, atomic_double_rows, atomic_rows, reserve_rows, bare_rows, plain_rows, naming_rows, value_rows, instruction_shape, shape_of}
+use Rattle.asm_words.specs.Strings.{string_of}
+use Rattle.asm_words.specs.Numbers.{◌>>=◌, number_of}
 use Rattle.asm_text.specs.Reading.{item, extended}
-use Rattle.asm_text.specs.Registers.{numbered, by_use, register_named, register_of}
+use Rattle.asm_words.specs.Registers.{below_ten, below_twenty, from_twenty, numbered, pointers, temporaries, saved, arguments, by_use, register_named, register_of}
 use Rattle.asm_text.specs.Source.{Read, read, fault, pieces, statements_in, line_of, behind_line, read_lines, source_of}
-use Rattle.asm_text.specs.Statements.{at_comma, is_nothing, bracketed, indexed, based, name_of, register_first, register_and_name, register_and_number, register_form, immediate_form, memory_form, store_form, upper_form, atomic_form, reserve_form, alone, move_form, to_register_form, literal_form, plain_of, branch_form, branch_zero_form, jump_form, address_form, naming_of, each, value_of, values_of, alone_in, body_of, unlabelled, label_of, statement_of, parts}
-use Rattle.asm_text.specs.Tables.{named, first_of}
+use Rattle.asm_words.specs.Operands.{at_comma, is_nothing, bracketed, indexed, based, name_of, register_first, register_and_name, register_and_number}
+use Rattle.asm_text.specs.Statements.{register_form, immediate_form, memory_form, store_form, upper_form, atomic_form, reserve_form, alone, move_form, to_register_form, literal_form, plain_of, branch_form, branch_zero_form, jump_form, address_form, naming_of, each, value_of, values_of, alone_in, body_of, unlabelled, label_of, statement_of, parts}
+use Rattle.asm_words.specs.Tables.{named, first_of}
 use Rattle.rv_asm.specs.Formed.{HasOperands, IsFormed, AreFormed}
 
 -- what is there has the property
@@ -105,7 +107,7 @@ abbrev is_register : ℕ → Bool
 is_register n = nat_lt n 32
 
 named_register : (text : List ℕ) → Good (Passes is_register) (register_of text)
-unfolding register_of register_named numbered by_use
+unfolding register_of register_named numbered below_ten below_twenty from_twenty by_use pointers temporaries saved arguments
 named_register text =
     either (Passes is_register) (named by_use (trimmed text)) (named numbered (trimmed text)) (in_table is_register by_use (trimmed text) refl) (in_table is_register numbered (trimmed text) refl)
 
@@ -229,7 +231,7 @@ abbrev group_of : List (List ℕ × Op) → (Op → Shape) → List ℕ → Opti
 group_of rows make name = option_map make (named rows name)
 
 instruction_good : (name : List ℕ) → Good (Passes shape_fits) (instruction_shape name)
-unfolding instruction_shape register_rows immediate_rows memory_rows store_rows upper_rows atomic_rows reserve_rows bare_rows branch_rows row_of
+unfolding instruction_shape register_rows base_rows product_rows low_word_rows immediate_rows memory_rows store_rows upper_rows atomic_rows atomic_word_rows atomic_double_rows reserve_rows bare_rows branch_rows row_of
 instruction_good name =
     let i = group_of branch_rows (λ op. shape.Naming (naming.Branch op)) name in
     let h = first_of (group_of bare_rows (λ op. shape.Plain (plain.Bare op)) name) i in

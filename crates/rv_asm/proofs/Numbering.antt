@@ -4,7 +4,7 @@ use Rattle.std.specs.Prelude.{Option, Some, None, map, if◌then◌else◌}
 use Rattle.std.specs.List.{All}
 use Rattle.std.proofs.lemmas.List.Elements.{All-nil, All-cons, All-append}
 use Rattle.std.proofs.lemmas.List.{length-map, length-append}
-use Rattle.asm_text.specs.Tables.{first_of}
+use Rattle.asm_words.specs.Tables.{first_of}
 use Rattle.asm_text.specs.declared.statements.Statement.{Statement}
 use Rattle.asm_text.specs.declared.statements.Statement.TheVariants as statement
 use Rattle.asm_text.specs.declared.statements.Item.{Item}

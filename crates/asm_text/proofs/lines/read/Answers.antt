@@ -1,7 +1,7 @@
 use Rattle.std.proofs.Common.{◌≡◌, ◌∙◌, ℕ, true, false, drop}
 use Rattle.std.specs.Prelude.{◌==◌, None}
 use Rattle.std.specs.List.{list_any}
-use Rattle.asm_text.specs.Characters.{is_foreign}
+use Rattle.asm_words.specs.Characters.{is_foreign}
 use Rattle.asm_text.specs.Statements.{parts}
 use Rattle.asm_text.specs.Source.{line_of, source_of}
 use Rattle.asm_text.proofs.Sourcing.{lines_text, lines_form}

@@ -1,7 +1,0 @@
-use Rattle.std.proofs.Common.{◌≡◌, false, drop}
-use Rattle.asm_text.specs.Numbers.{quoted}
-use Rattle.asm_text.proofs.Quoting.{behind}
-use Rattle.asm_text.proofs.reading.unquoted.Given as goal
-
-abbrev pub invariant-loop-i : goal.invariant-loop-i
-invariant-loop-i l = behind l.bytes.items (quoted l.escaped (drop l.i l.text)) ≡ quoted false l.text

@@ -1,0 +1,5 @@
+pub mod Cutting
+pub mod Quoting
+pub mod Tables
+pub mod Trimming
+pub mod Words
