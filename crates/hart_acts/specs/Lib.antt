@@ -1,0 +1,3 @@
+pub mod Did
+pub mod Fits
+pub mod Registers
