@@ -1,7 +1,7 @@
--- What is true of the functions and words of an accepted file's image. This project's own.
+-- What is true of the functions and words of the image of a file that can be bound. This project's own.
 use Rattle.std.specs.Prelude.{◌≡◌, ℕ, ◌+◌, ◌*◌, ◌%◌, ◌<◌, ◌≤◌, [], ◌∷◌, length, slice_index, slice_index_or}
 use Rattle.sh_types.specs.declared.code.Image.{Image}
-use Rattle.elf_rules.specs.Accepted.{sum_of}
+use Rattle.elf_rules.specs.Bindable.{sum_of}
 use Rattle.sh_types.specs.Image.{sizes_of, starts_of, first_stack}
 use Rattle.sh_types.specs.Limits.{image_end, most_code, most_functions}
 

@@ -1,4 +1,4 @@
-pub mod Accepted
+pub mod Bindable
 pub mod Coded
 pub mod Elf
 pub mod ElfRules

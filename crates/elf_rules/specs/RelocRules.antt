@@ -43,7 +43,7 @@ is_placed heads r =
 unfoldable pub covers : (place width : ℕ) → Segment → Bool
 covers place width g = nat_le g.start place && nat_le (place + width) (g.start + g.file_size)
 
--- the bytes that it takes lie in one segment's; one that takes none asks for nothing
+-- the bytes that a record takes lie in the file's bytes of one segment; one that takes none asks for nothing
 unfoldable pub is_backed : List Segment → RawReloc → Bool
 is_backed segments r = (width_of r.kind == 0) || list_any (covers r.place (width_of r.kind)) segments
 

@@ -33,7 +33,7 @@ abbrev pub takes_four : ℕ → Bool
 takes_four kind =
     one_of (riscv.abs32 ∷ riscv.branch ∷ riscv.jal ∷ riscv.got_hi20 ∷ riscv.pcrel_hi20 ∷ riscv.pcrel_lo12_i ∷ riscv.pcrel_lo12_s ∷ riscv.hi20 ∷ riscv.lo12_i ∷ riscv.lo12_s ∷ riscv.tprel_hi20 ∷ riscv.tprel_lo12_i ∷ riscv.tprel_lo12_s ∷ riscv.tprel_add ∷ []) kind
 
--- how many bytes it takes; none where its kind is not in the table
+-- how many bytes a record of the kind takes at its place; none where the kind is not in the table
 unfoldable pub width_of : ℕ → ℕ
 width_of kind = if takes_eight kind then 8 else if takes_four kind then 4 else 0
 

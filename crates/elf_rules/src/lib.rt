@@ -1,4 +1,4 @@
-//! Parts of ELF-64 files, and why a file is refused; which files are accepted, by which rules, stands in specs/.
+//! Parts of ELF-64 files, and why a file is refused; which files can be bound, by which rules, stands in specs/.
 #![tactic(auto)]
 
 mod asking;

@@ -4,7 +4,7 @@ ghost use Rattle.elf_rules.specs.declared.refusals.ElfFault.TheVariants as elf;
 ghost use Rattle.elf_rules.specs.declared.refusals.SplitFault.TheVariants as split;
 ghost use Rattle.elf_rules.specs.declared.refusals.LoadFault.TheVariants as load;
 
-use sh_types::NoMemory;
+use sh_types::{NoMemory, Rule, SymbolName};
 use std::alloc::{AllocError, AllocFailed};
 
 /// The rules on a file's headers, tables, symbols and relocation records, in the order in which they are tested.
@@ -95,9 +95,10 @@ pub enum LimitKind {
     Code,
 }
 
-/// Why a file has no image: memory was refused, a rule on the file fails, a value is above its limit, a function is
-/// refused, or the bytes at the place of a relocation record of this kind have other bits than the record asks for.
-#[derive(Clone, Copy, Debug, PartialEq, Eq)]
+/// Why a file has no image: memory was refused, a rule on the file fails, a value is above its limit, a function breaks a
+/// rule of splitting, the bytes at the place of a relocation record of this kind have other bits than the record asks for,
+/// or the function with this number and name is refused at an offset, in bytes.
+#[derive(Debug, Drop)]
 pub enum LoadFault {
     NoMemory,
     Elf {
@@ -116,6 +117,12 @@ pub enum LoadFault {
         kind: u32,
         found: u64,
         expected: u64,
+    },
+    Refused {
+        func: u32,
+        name: SymbolName,
+        off: u32,
+        rule: Rule,
     },
 }
 

@@ -127,7 +127,8 @@ abbrev pub literal_to : Option ℕ → Reloc → (home word : ℕ) → ℕ
 literal_to None r home word = own_literal home word
 literal_to (Some f) r home word = token_literal f r
 
--- by the record on the word: a PCREL_HI20 to the start of a function gives the function's token, all else the address
+-- by the record on the word: a PCREL_HI20 to the start of a function gives the function's token less lo12, all else the
+-- address plus the immediate
 unfoldable pub literal_by : List Function → Option Reloc → (home word : ℕ) → ℕ
 literal_by functions None home word = own_literal home word
 literal_by functions (Some r) home word =

@@ -8,7 +8,7 @@ use Rattle.sh_types.specs.declared.code.Pair.{Pair}
 use Rattle.sh_types.specs.declared.code.Region.{Region}
 use Rattle.sh_types.specs.declared.code.Site.{Site}
 use Rattle.sh_types.specs.declared.relocs.Reloc.{Reloc}
-use Rattle.elf_rules.specs.Accepted.{codes_in_order, data_regions, file_functions, filled_in_order, function_words, loaded_image}
+use Rattle.elf_rules.specs.Bindable.{codes_in_order, data_regions, file_functions, filled_in_order, function_words, loaded_image}
 use Rattle.elf_rules.specs.Relocs.{relocs_of, width_of}
 use Rattle.image_rules.specs.declared.tokens.Token.{Token}
 use Rattle.image_rules.specs.Binding.{bound_data, bound_word, is_data_pointer, labels_of, rows_of}
@@ -103,6 +103,6 @@ sites_from source f (g ∷ gs) = classes_of (source f) ∷ sites_from source (su
 unfoldable pub with_sites : List Reloc → Image → Image
 with_sites relocs i = record i { sites = sites_from (source_of i relocs) 0 i.functions }
 
--- the bound image of an accepted file; frames and literals are not made here
+-- the bound image of a file that can be bound; frames and literals are not made here
 unfoldable pub bound_image : List ℕ → Image
 bound_image b = with_sites (relocs_of b) (bound_parts b (file_functions b) (relocs_of b))

@@ -1,4 +1,4 @@
 pub mod Binding
 pub mod Bound
+pub mod Framed
 pub mod Refusals
-pub mod Thin

@@ -16,7 +16,6 @@ pub mod Next
 pub mod Notes
 pub mod Pace
 pub mod PlainSerial
-pub mod Runnable
 pub mod Serial
 pub mod Shuffled
 pub mod Small

@@ -1,7 +1,8 @@
--- Which files are accepted, in which order the others are refused, and what stands in an accepted file. A file is refused
--- by a rule of the ELF file (ElfRules, RelocRules), by a limit, by a rule of splitting (Splitting), or by a relocation
--- record that its bytes do not agree with. The limits and the order are this project's own; segments, sections and records
--- are those of the System V gABI ("Program Header", "Sections", "Relocation").
+-- Which files can be bound, in which order the others are refused, and what stands in such a file. A file cannot be bound
+-- where a rule of the ELF file fails (ElfRules, RelocRules), a limit is passed, a rule of splitting fails (Splitting), or its
+-- bytes do not agree with a relocation record. Frames come later, and may refuse further files. The limits and the order are
+-- this project's own; segments, sections and records are those of the System V gABI ("Program Header", "Sections",
+-- "Relocation").
 use Rattle.std.specs.Prelude.{◌≡◌, ℕ, ◌+◌, ◌-◌, ◌/◌, ◌&&◌, nat_lt, nat_le, max, min, Bool, false, is_none, List, [], ◌∷◌, ◌++◌, length, map, filter, find, take, drop, replicate, unwrap_or, Option, Some, None, Result, Ok, Err, if◌then◌else◌}
 use Rattle.sh_types.specs.declared.code.Function.{Function}
 use Rattle.sh_types.specs.declared.code.Image.{Image}
@@ -122,8 +123,8 @@ by_split (Some (split.Rule home rule)) = Some (load.Split home rule)
 
 -- the first refusal: the rules on the tables, on symbols and on relocation records, the mapped bytes, the rules of
 -- splitting, the number of functions, the bytes of code, and the first record that disagrees with its bytes
-unfoldable pub refusal_of : List ℕ → Option LoadFault
-refusal_of b =
+unfoldable pub binding_refusal : List ℕ → Option LoadFault
+binding_refusal b =
     or_later (by_rule (first_failing table_rules b))
     (or_later (by_rule (first_failing symbol_rules b))
     (or_later (by_rule (first_failing reloc_rules b))
@@ -133,12 +134,12 @@ refusal_of b =
     (or_later (above kind.Code most_code (code_by (file_functions b)))
     (mismatch_of b)))))))
 
--- the file is accepted
-abbrev pub is_accepted : List ℕ → Bool
-is_accepted b = is_none (refusal_of b)
+-- the file can be bound
+abbrev pub is_bindable : List ℕ → Bool
+is_bindable b = is_none (binding_refusal b)
 
-abbrev pub Accepts : List ℕ → Type 0
-Accepts b = refusal_of b ≡ None
+abbrev pub IsBindable : List ℕ → Type 0
+IsBindable b = binding_refusal b ≡ None
 
 -- ---- words
 
@@ -196,7 +197,7 @@ file_regions b = data_regions b (codes_in_order b) (filled_in_order b) ++ first_
 abbrev pub entry_number : List ℕ → ℕ
 entry_number b = unwrap_or (number_of (starts_of (file_functions b)) (entry_of b)) 0
 
--- what stands in an accepted file: functions, words and readable bytes; relocation records bind nothing here
+-- what stands in a file that can be bound: functions, words and readable bytes; relocation records bind nothing here
 unfoldable pub loaded_image : List ℕ → Image
 loaded_image b =
     record {
@@ -211,11 +212,18 @@ loaded_image b =
       regions = file_regions b;
     }
 
--- the file is accepted and this is its image, or this is the first refusal; want of memory says nothing
-abbrev pub Loads : Result Image LoadFault → Option LoadFault → Image → Type 0
-Loads (Ok image) refusal value = (refusal ≡ None) × (image ≡ value)
-Loads (Err load.NoMemory) refusal value = Unit {0}
-Loads (Err (load.Elf rule)) refusal value = refusal ≡ Some (load.Elf rule)
-Loads (Err (load.Limit kind most)) refusal value = refusal ≡ Some (load.Limit kind most)
-Loads (Err (load.Split home rule)) refusal value = refusal ≡ Some (load.Split home rule)
-Loads (Err (load.Mismatch place kind found expected)) refusal value = refusal ≡ Some (load.Mismatch place kind found expected)
+-- ---- what a step of loading tells
+
+-- the fault is this refusal; want of memory says nothing
+abbrev pub Stops : LoadFault → Option LoadFault → Type 0
+Stops load.NoMemory refusal = Unit {0}
+Stops (load.Elf rule) refusal = refusal ≡ Some (load.Elf rule)
+Stops (load.Limit kind value) refusal = refusal ≡ Some (load.Limit kind value)
+Stops (load.Split home rule) refusal = refusal ≡ Some (load.Split home rule)
+Stops (load.Mismatch place kind found expected) refusal = refusal ≡ Some (load.Mismatch place kind found expected)
+Stops (load.Refused func name off rule) refusal = refusal ≡ Some (load.Refused func name off rule)
+
+-- nothing is refused and P is true of the value, or this is refused
+abbrev pub Passes : {A : Type 0} → Result A LoadFault → Option LoadFault → (A → Type 0) → Type 0
+Passes (Ok value) refusal P = (refusal ≡ None) × P value
+Passes (Err fault) refusal P = Stops fault refusal

@@ -1,6 +1,0 @@
-pub mod Words
-pub mod States
-pub mod Cases
-pub mod Images
-pub mod Runs
-pub mod Fine
