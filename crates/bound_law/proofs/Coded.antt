@@ -1,11 +1,12 @@
--- The bound image of an accepted file has the functions of what stands in the file, and words and regions of the same sizes.
+-- The bound image of a file that can be bound has the functions of what stands in the file, and words and regions of the
+-- same sizes.
 use Rattle.std.proofs.Common.{◌≡◌, ℕ, zero, suc, ◌+◌, ◌*◌, List, [], ◌∷◌, ◌++◌, length, get_or, refl, ap, ◌∙◌, arith, length-append}
 use Rattle.std.specs.Prelude.{map}
 use Rattle.std.proofs.lemmas.List.{length-map}
 use Rattle.sh_types.specs.declared.code.Function.{Function}
 use Rattle.sh_types.specs.declared.code.Region.{Region}
 use Rattle.sh_types.specs.declared.relocs.Reloc.{Reloc}
-use Rattle.elf_rules.specs.Accepted.{Accepts, codes_in_order, data_regions, file_functions, filled_in_order, function_words, loaded_image}
+use Rattle.elf_rules.specs.Bindable.{IsBindable, codes_in_order, data_regions, file_functions, filled_in_order, function_words, loaded_image}
 use Rattle.elf_rules.specs.Coded.{IsCoded}
 use Rattle.elf_rules.specs.Relocs.{relocs_of}
 use Rattle.image_rules.specs.declared.tokens.Token.{Token}
@@ -35,9 +36,9 @@ stack_alone : (b : List ℕ) (ts : List Token) → length (bound_regions b ts) �
 unfolding bound_regions
 stack_alone b ts e = sole (map (bound_region ts) (data_regions b (codes_in_order b) (filled_in_order b))) first_stack e
 
-module _ (b : List ℕ) (accepts : Accepts b) where
+module _ (b : List ℕ) (bindable : IsBindable b) where
   file : IsCoded (loaded_image b)
-  file = accepted_coded b accepts
+  file = accepted_coded b bindable
 
   many_words : length (map (bound_words b (file_functions b) (relocs_of b)) (file_functions b)) ≡ length (file_functions b)
   many_words = length-map (file_functions b) (bound_words b (file_functions b) (relocs_of b))
@@ -58,5 +59,5 @@ module _ (b : List ℕ) (accepts : Accepts b) where
         stack = stack_alone b (tokens_of (file_functions b) (labels_of (file_functions b) (relocs_of b)) (relocs_of b));
       }
 
-pub bound_coded : (b : List ℕ) → Accepts b → IsCoded (bound_image b)
-bound_coded b accepts = coded b accepts
+pub bound_coded : (b : List ℕ) → IsBindable b → IsCoded (bound_image b)
+bound_coded b bindable = coded b bindable

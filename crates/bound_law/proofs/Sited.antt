@@ -1,4 +1,4 @@
--- The classes of the bound image of an accepted file are those of its words.
+-- The classes of the bound image of a file are those of its words.
 use Rattle.std.proofs.Common.{◌≡◌, ◌⊎◌, inl, inr, ℕ, zero, suc, ◌+◌, ◌<◌, ◌≤◌, List, [], ◌∷◌, length, get_or, refl, ap, ◌∙◌, arith}
 use Rattle.std.specs.Prelude.{slice_index_or}
 use Rattle.std.proofs.lemmas.Bool.{cases_lt}
@@ -6,7 +6,7 @@ use Rattle.std.proofs.lemmas.List.{get_or_past}
 use Rattle.sh_types.specs.declared.code.Function.{Function}
 use Rattle.sh_types.specs.declared.code.Site.{Site}
 use Rattle.sh_types.specs.declared.code.Site.TheVariants.{Plain}
-use Rattle.elf_rules.specs.Accepted.{file_functions, loaded_image}
+use Rattle.elf_rules.specs.Bindable.{file_functions, loaded_image}
 use Rattle.elf_rules.specs.Relocs.{relocs_of}
 use Rattle.image_rules.specs.Bound.{bound_image, bound_parts, classes_from, classes_of, sites_from, with_sites}
 use Rattle.sh_machines.specs.Class.{Source, class_at, source_of}

@@ -11,7 +11,7 @@ use Rattle.sh_types.specs.declared.relocs.Reloc.{Reloc}
 use Rattle.elf_rules.specs.declared.elf.Head.{Head}
 use Rattle.elf_rules.specs.declared.elf.Span.{Span}
 use Rattle.elf_rules.specs.declared.relocs.RawReloc.{RawReloc}
-use Rattle.elf_rules.specs.Accepted.{rising_by}
+use Rattle.elf_rules.specs.Bindable.{rising_by}
 use Rattle.elf_rules.specs.Elf.{heads_of, symbols_of}
 use Rattle.elf_rules.specs.ElfRules.{first_failing, reloc_rules}
 use Rattle.elf_rules.specs.RelocRules.{taken_span, taken_spans, takes_bytes}

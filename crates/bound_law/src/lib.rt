@@ -1,4 +1,4 @@
-//! What is true of the bound images of accepted files, as clauses of functions that do nothing.
+//! What is true of the bound images of files that can be bound, as clauses of functions that do nothing.
 #![tactic(auto)]
 
 ghost use Rattle.std.specs.Prelude.{◌≡◌, ◌≢◌, ◌⊎◌, ◌<◌, ◌≤◌, ℕ, List, [], None, Some, true, find, length, slice_get, slice_index_or};
@@ -6,7 +6,7 @@ ghost use Rattle.sh_types.specs.declared.code.Function.{Function};
 ghost use Rattle.sh_types.specs.declared.code.Pair.{Pair};
 ghost use Rattle.sh_types.specs.declared.code.Site.TheVariants.{Plain};
 ghost use Rattle.sh_types.specs.declared.relocs.Reloc.{Reloc};
-ghost use Rattle.elf_rules.specs.Accepted.{Accepts, rising_by};
+ghost use Rattle.elf_rules.specs.Bindable.{IsBindable, rising_by};
 ghost use Rattle.elf_rules.specs.Coded.{IsCoded};
 ghost use Rattle.elf_rules.specs.ElfRules.{first_failing, reloc_rules};
 ghost use Rattle.elf_rules.specs.Relocs.{relocs_of};
@@ -17,14 +17,14 @@ ghost use Rattle.image_rules.specs.Refusals.{record_refusal};
 ghost use Rattle.sh_machines.specs.Class.{Source, class_at, source_of};
 ghost use Rattle.bound_law.specs.Targets.{IsTarget};
 
-/// The bound image of an accepted file has functions that rise and share no byte, with their words, an entry at the start
-/// of one, and the first stack.
+/// The bound image of a file that can be bound has functions that rise and share no byte, with their words, and an entry
+/// at the start of one. Where it has one region, that is the first stack.
 pub fn bound_images_are_coded()
-    ensures { (bytes : List ℕ) → Accepts bytes → IsCoded (bound_image bytes) }
+    ensures { (bytes : List ℕ) → IsBindable bytes → IsCoded (bound_image bytes) }
 {}
 
-/// In a file whose relocation records hold no two tokens share a byte, so that the token at an address is the same one by
-/// rising addresses.
+/// In a file whose relocation records hold, the first token that takes the byte at an address is the same one in file
+/// order and by rising addresses.
 pub fn tokens_are_apart()
     ensures { (bytes : List ℕ) (functions : List Function) (labels : List Pair) (address : ℕ) → first_failing reloc_rules bytes ≡ None → find (takes_byte address) (rising_by (λ (t : Token). t.place) (tokens_of functions labels (relocs_of bytes))) ≡ find (takes_byte address) (tokens_of functions labels (relocs_of bytes)) }
 {}

@@ -8,7 +8,7 @@ use Rattle.std.proofs.lemmas.Bool.Decides.{nat_tests}
 use Rattle.elf_rules.specs.declared.elf.Segment.{Segment}
 use Rattle.elf_rules.specs.declared.relocs.RawReloc.{RawReloc}
 use Rattle.sh_types.specs.declared.relocs.Reloc.{Reloc}
-use Rattle.elf_rules.specs.Accepted.{filled_in_order, is_mapped_at, no_segment, segment_with}
+use Rattle.elf_rules.specs.Bindable.{filled_in_order, is_mapped_at, no_segment, segment_with}
 use Rattle.elf_rules.specs.Elf.{heads_of, segments_of, symbols_of}
 use Rattle.elf_rules.specs.ElfRules.{fails, first_failing, has_memory, reloc_rules, segment_span, table_rules}
 use Rattle.elf_rules.specs.RelocRules.{bad_kinds, bad_records, bad_reloc_table, bad_symbol, bad_taken, bad_used, clash, covers, high_places, is_alone, is_backed, is_crooked, is_foreign, is_placed, place_span, taken_spans, takes_code}

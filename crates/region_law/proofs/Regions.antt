@@ -5,7 +5,7 @@ use Rattle.std.proofs.lemmas.Bool.{cases_Bool}
 use Rattle.std.proofs.lemmas.List.Elements.{All-from_recursion, recursion_from_All}
 use Rattle.sh_types.specs.declared.code.Region.{Region}
 use Rattle.sh_types.specs.Image.{first_stack}
-use Rattle.elf_rules.specs.Accepted.{codes_in_order, data_regions, file_functions, file_regions, filled_in_order}
+use Rattle.elf_rules.specs.Bindable.{codes_in_order, data_regions, file_functions, file_regions, filled_in_order}
 use Rattle.elf_rules.specs.ElfRules.{first_failing, table_rules}
 use Rattle.elf_rules.specs.Relocs.{relocs_of}
 use Rattle.image_rules.specs.declared.tokens.Token.{Token}

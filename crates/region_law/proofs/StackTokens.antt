@@ -10,7 +10,7 @@ use Rattle.sh_types.specs.declared.code.Pair.{Pair}
 use Rattle.sh_types.specs.declared.relocs.Reloc.{Reloc}
 use Rattle.sh_types.specs.Image.{stack_start}
 use Rattle.elf_rules.specs.declared.elf.Segment.{Segment}
-use Rattle.elf_rules.specs.Accepted.{filled_in_order, is_mapped_at, no_segment, segment_with}
+use Rattle.elf_rules.specs.Bindable.{filled_in_order, is_mapped_at, no_segment, segment_with}
 use Rattle.elf_rules.specs.ElfRules.{first_failing, table_rules}
 use Rattle.elf_rules.specs.Relocs.{relocs_of, takes_eight, takes_four, width_of}
 use Rattle.image_rules.specs.declared.tokens.Token.{Token}

@@ -1,7 +1,7 @@
 -- What can be read at an address of the bound image of a file: what the file has there, with tokens in place of addresses
 -- of code. This project's own.
 use Rattle.std.specs.Prelude.{ℕ, Option, Some, None, List, find}
-use Rattle.elf_rules.specs.Accepted.{file_functions}
+use Rattle.elf_rules.specs.Bindable.{file_functions}
 use Rattle.elf_rules.specs.Relocs.{relocs_of}
 use Rattle.image_rules.specs.declared.tokens.Token.{Token}
 use Rattle.image_rules.specs.Binding.{labels_of}
