@@ -1,5 +1,5 @@
 //! Functions from symbols, sections and the entry. The rules are those of `functions_of` and `split_refusal` in the
-//! definitions of sh_types.
+//! definitions of elf_rules.
 #![tactic(auto)]
 
 mod functions;

@@ -8,7 +8,7 @@ use Rattle.sh_types.specs.declared.code.Function.{Function}
 use Rattle.sh_types.specs.declared.code.Pair.{Pair}
 use Rattle.sh_types.specs.declared.relocs.Reloc.{Reloc}
 use Rattle.sh_types.specs.Place.{pair}
-use Rattle.elf_rules.specs.Accepted.{sum_of}
+use Rattle.elf_rules.specs.Bindable.{sum_of}
 use Rattle.elf_rules.specs.Elf.{places}
 use Rattle.sh_machines.specs.Tokens.{AreInOrder}
 use Rattle.fn_lookup.specs.Apart.{AreApart, home_in}

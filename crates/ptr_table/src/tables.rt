@@ -37,8 +37,8 @@ fn rows_in(alloc: Global, functions: &[Function], taken: &[u128]) -> Result<Vec<
     Ok(found)
 }
 
-/// The numbers of the functions whose start a record takes as data, rising: a record in data, or one in code by R_RISCV_HI20,
-/// LO12_I, LO12_S or PCREL_HI20 (RISC-V psABI, "Relocations"). The time is that of sorting the records.
+/// The numbers of the functions whose start a record takes as data, rising: an R_RISCV_32 or R_RISCV_64 in data, or an
+/// R_RISCV_HI20, LO12_I, LO12_S or PCREL_HI20 in code (RISC-V psABI, "Relocations"). The time is that of sorting the records.
 #[tactic(auto, using(crate::proofs::Tabling::rows_same))]
 pub fn rows(
     alloc: Global,
@@ -106,8 +106,8 @@ fn all_labels(
     Ok(found)
 }
 
-/// The labels: the places of whole words inside functions, past the start, that a record in data names, by rising function
-/// and then by rising offset, and so by rising addresses. The time is that of sorting the records, and of a binary search
+/// The labels: the places of whole words inside functions, past the start, that an R_RISCV_32 or R_RISCV_64 in data names, by rising
+/// function and then by rising offset, and so by rising addresses. The time is that of sorting the records, and of a binary search
 /// for each word.
 #[tactic(auto, using(crate::proofs::Tabling::labels_same))]
 pub fn labels(

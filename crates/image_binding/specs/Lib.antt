@@ -1,0 +1,3 @@
+pub mod Binds
+pub mod Order
+pub mod Stages
