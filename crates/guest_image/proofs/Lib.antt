@@ -1,17 +1,5 @@
+mod Loading
+mod Numbers
+mod Recorded
+mod Walking
 pub mod Accepting
-pub mod Bounds
-pub mod Classing
-pub mod Entry
-pub mod Finding
-pub mod Holding
-pub mod Laid
-pub mod Mapped
-pub mod Numbers
-pub mod Ordered
-pub mod Places
-pub mod Refusing
-pub mod Rising
-pub mod Shifts
-pub mod Sorted
-pub mod Stack
-pub mod Whole

@@ -1,3 +1,3 @@
-pub mod Binds
-pub mod Order
-pub mod Stages
+pub mod Literals
+pub mod Records
+pub mod Walks

@@ -1,7 +1,0 @@
-use Rattle.std.proofs.Common.{◌≡◌, drop}
-use Rattle.elf_rules.specs.Accepted.{first_mismatch}
-use Rattle.guest_image.proofs.agreeing.all_agree.Given as goal
-
-abbrev pub invariant-loop-reloc : goal.invariant-loop-reloc
-invariant-loop-reloc l =
-    first_mismatch l.bytes l.segments l.all (drop l.reloc-index l.all) ≡ first_mismatch l.bytes l.segments l.all l.all

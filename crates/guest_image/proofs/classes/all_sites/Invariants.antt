@@ -1,8 +1,0 @@
-use Rattle.std.proofs.Common.{◌≡◌, ◌++◌, drop}
-use Rattle.image_rules.specs.Bound.{sites_from}
-use Rattle.guest_image.specs.Binds.{source}
-use Rattle.guest_image.proofs.classes.all_sites.Given as goal
-
-abbrev pub invariant-loop-i : goal.invariant-loop-i
-invariant-loop-i l =
-    l.sites.items ++ sites_from (source l.binding l.words l.entry) l.i (drop l.i l.binding.functions) ≡ sites_from (source l.binding l.words l.entry) 0 l.binding.functions

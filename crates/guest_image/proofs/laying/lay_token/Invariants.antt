@@ -1,5 +1,0 @@
-use Rattle.guest_image.proofs.Laid.{IsUpTo}
-use Rattle.guest_image.proofs.laying.lay_token.Given as goal
-
-abbrev pub invariant-loop-i : goal.invariant-loop-i
-invariant-loop-i l = IsUpTo l.token l.from l.i l.initial.bytes l.bytes

@@ -1,5 +1,0 @@
-use Rattle.guest_image.proofs.Stack.{stack_is}
-use Rattle.guest_image.proofs.regions.stack.Goals as goal
-
-pub returns : goal.returns
-returns c = rw c.in_ok-zeros.ensures (stack_is c.args.size c.requires)
