@@ -18,8 +18,6 @@ use Rattle.shuf_machine.specs.declared.answers.MachineNo.TheVariants.{NotEnabled
 use Rattle.shuf_machine.specs.declared.answers.No.{No}
 use Rattle.shuf_machine.specs.declared.answers.No.TheVariants.{NoHart}
 use Rattle.shuf_machine.specs.Refusal.{IsCause, run_no, live_no, unless_ended}
-use Rattle.hart_runner.specs.Built.{comes_to_other, other_at}
-use Rattle.hart_runner.proofs.Calling.{other_stands}
 use Rattle.hart_runner.proofs.Tests.{and_first, and_second, none_of}
 
 live_stands : (o : Setting) (x : Option Hart) (y : Option Thread) → GetStands o x y → is_live x ≡ is_alive y
@@ -35,18 +33,6 @@ lives_stand o s u n st = live_stands o (slice_get s.harts n) (slice_get u.thread
 -- it can go where the thread can
 pub can_stands : (o : Setting) (s : Shuffled) (u : Unmoved) (n : ℕ) → StandsFor o s u → can_run s n ≡ can_go u n
 can_stands o s u n st = cc (st.end, lives_stand o s u n st)
-
-pub first_lives : (o : Setting) (s : Shuffled) (u : Unmoved) (h : Hart) → StandsFor o s u → can_go u 0 ≡ true → slice_get s.harts 0 ≡ Some h → h.live ≡ true
-first_lives o s u h st go e = sym (ap is_live e) ∙ and_second (goes_still s.end) (is_live (slice_get s.harts 0)) (can_stands o s u 0 st ∙ go)
-
-pub first_is : (o : Setting) (s : Shuffled) (u : Unmoved) → StandsFor o s u → can_go u 0 ≡ true → slice_get s.harts 0 ≡ None → ⊥
-first_is o s u st go e = cc (sym (ap is_live e) ∙ and_second (goes_still s.end) (is_live (slice_get s.harts 0)) (can_stands o s u 0 st ∙ go))
-
-pub other_there : (o : Setting) (s : Shuffled) (u : Unmoved) (h : Hart) (image : Image) (l : Layout) → IsSetting o → Stays o s u → slice_get s.harts 0 ≡ Some h → h.live ≡ true → image ≡ o.image → l ≡ o.layout_at h.layout → other_at image (whose_of l h.pc) (slice_index h.regs 17) ≡ comes_to_other o.image u
-other_there o s u h image l set st e live ei el =
-    ap (λ (i : Image). other_at i (whose_of l h.pc) (slice_index h.regs 17)) ei
-    ∙ ap (λ (l : Layout). other_at o.image (whose_of l h.pc) (slice_index h.regs 17)) el
-    ∙ sym (other_stands o s u h set st e live)
 
 -- ---- a hart that can go is not refused
 

@@ -1,12 +1,9 @@
-pub mod Alone
 pub mod Behind
 pub mod Boundaries
-pub mod Calling
-pub mod Exits
-pub mod First
 pub mod Going
 pub mod Linking
 pub mod Numbers
+pub mod Opening
 pub mod Rounds
 pub mod Running
 pub mod Stills

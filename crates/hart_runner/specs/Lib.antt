@@ -1,4 +1,2 @@
-pub mod Built
-pub mod First
 pub mod Plans
 pub mod Standing

@@ -15,7 +15,8 @@ use crate::plan::{Plan, limit_at};
 use sh_types::{NoMemory, Steps};
 use shuf_machine::{Machine, machines_stand};
 use std::alloc::Global;
-use std::sync::ledger::Ledger;
+use std::marker::Brand;
+use std::sync::ledger::{Blank, Ledger};
 
 /// Each live hart that is not on the newest layout moves to it.
 fn migrate_all<L: Ledger>(machine: &mut Machine, steps: &mut Steps<L>) -> Result<(), NoMemory>
@@ -145,4 +146,42 @@ pub fn run_serial<L: Ledger>(
         low = hart + 1;
     }
     Ok(())
+}
+
+/// A run of a machine that has done nothing, with a counter of the steps that migrations take.
+#[tactic(auto, using(crate::proofs::Opening::opening_paced, crate::proofs::Opening::opening_count))]
+fn run_counted<L: Ledger>(
+    alloc: Global,
+    machine: &mut Machine,
+    plan: &Plan,
+    blank: Blank,
+) -> Result<(), NoMemory>
+    requires fresh { machine.old.journal ≡ [] }
+    requires period { 1 ≤ plan.now.period }
+    requires quantum { 1 ≤ plan.now.quantum }
+    requires small { plan.now.steps < 2 ^ 63 }
+    requires name { blank.name ≡ L.name }
+    requires parts { blank.parts ≡ L.parts }
+    requires some { 0 < blank.parts }
+    ensures image { OnOk result (machine.new.image ≡ machine.old.image) }
+    ensures origin { OnOk result (machine.new.origin ≡ machine.old.origin) }
+    ensures serial { OnOk result (machine.new.journal ≡ serial_list (image_in machine.old) machine.old.origin.input (schedule_of plan.now)) }
+{
+    let mut steps = Steps::<L>::new(blank);
+    run_serial(alloc, machine, plan, &mut steps)
+}
+
+/// Runs a machine that has done nothing in the serial order, until the run ends or has `plan.steps` instructions. Its
+/// journal is then the whole list of the serial order, which is a function of the image, the input and the plan. Err only
+/// where memory is refused.
+pub fn run_new(alloc: Global, machine: &mut Machine, plan: &Plan) -> Result<(), NoMemory>
+    requires fresh { machine.old.journal ≡ [] }
+    requires period { 1 ≤ plan.now.period }
+    requires quantum { 1 ≤ plan.now.quantum }
+    requires small { plan.now.steps < 2 ^ 63 }
+    ensures image { OnOk result (machine.new.image ≡ machine.old.image) }
+    ensures origin { OnOk result (machine.new.origin ≡ machine.old.origin) }
+    ensures serial { OnOk result (machine.new.journal ≡ serial_list (image_in machine.old) machine.old.origin.input (schedule_of plan.now)) }
+{
+    run_counted::<Brand>(alloc, machine, plan, Blank::new(1))
 }

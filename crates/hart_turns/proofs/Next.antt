@@ -22,9 +22,9 @@ use Rattle.sh_types.specs.Place.{whose_of, pair_or_first}
 use Rattle.sh_machines.specs.Shuffled.{Setting, Owned, Shuffled, left, after, harts_lose, moved_of, on_hart, shuffled_step, hart_does, hart_needs, is_guard, kind_there, pair_of, load_owned, store_owned, reserve_owned, atomic_owned, save_owned, take_owned}
 use Rattle.sh_machines.specs.StandsFor.{layout_number}
 use Rattle.sh_law.specs.Length.{is_calls, hart_calls, calls_in}
-use Rattle.hart_step.specs.declared.answers.Did.{Did}
-use Rattle.hart_step.specs.Did.{did_as, touched_by, did_of, hart_after}
-use Rattle.hart_step.specs.Fits.{Fits}
+use Rattle.hart_acts.specs.declared.answers.Did.{Did}
+use Rattle.hart_acts.specs.Did.{did_as, touched_by, did_of, hart_after}
+use Rattle.hart_acts.specs.Fits.{Fits}
 use Rattle.hart_step.specs.Task.{tables_with}
 use Rattle.guest_mem.specs.Held.{Held, regions_of}
 use Rattle.hart_turns.specs.declared.state.LiveCode.{LiveCode}

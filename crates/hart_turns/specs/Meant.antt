@@ -6,10 +6,9 @@ use Rattle.sh_machines.specs.Copy.{copy_of, wiped_copy}
 use Rattle.sh_machines.specs.Fine.{IsSetting}
 use Rattle.sh_types.specs.Image.{sizes_of}
 use Rattle.sh_machines.specs.Memory.{readable, writable}
-use Rattle.sh_machines.specs.Runnable.{IsRunnable}
 use Rattle.sh_machines.specs.Shuffled.{Setting, Shuffled}
 use Rattle.guest_mem.specs.Held.{Held, words_of, regions_of}
-use Rattle.hart_step.specs.Fits.{Fits}
+use Rattle.hart_acts.specs.Fits.{Fits}
 use Rattle.layout_maker.specs.Layout.{layout_of}
 use Rattle.hart_turns.specs.declared.state.LiveCode.{LiveCode}
 use Rattle.hart_turns.specs.declared.state.Prepared.{Prepared}
@@ -49,9 +48,8 @@ abbrev pub IsOlder : Setting → ℕ → Bool → Option Prepared → Type 0
 IsOlder o newest older None = older ≡ false
 IsOlder o newest older (Some p) = (older ≡ true) × IsMade o (newest - 1) p
 
--- the image can be run, and the live layouts and copies are those that the seed gives
+-- the live layouts and copies are those that the seed gives
 pub record IsLive (c : LiveCode) : Type 0 where
-  pub runnable : IsRunnable c.image.now
   -- rows and labels rise, and are the image's
   pub fits : Fits c.image.now.rows c.image.now.labels (sizes_of c.image.now)
   pub setting : IsSetting (setting_of c)

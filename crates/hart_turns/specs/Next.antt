@@ -13,8 +13,8 @@ use Rattle.rv_table.specs.Operands.{plus_imm}
 use Rattle.sh_machines.specs.Shuffled.{Setting, Owned, Shuffled, left, harts_lose, moved_of, shuffled_step, kind_there}
 use Rattle.sh_machines.specs.StandsFor.{layout_number}
 use Rattle.sh_law.specs.Length.{calls_in}
-use Rattle.hart_step.specs.declared.answers.Did.{Did}
-use Rattle.hart_step.specs.declared.answers.Did.TheVariants.{Went, Call, HartEnd, Trapped, Leak}
+use Rattle.hart_acts.specs.declared.answers.Did.{Did}
+use Rattle.hart_acts.specs.declared.answers.Did.TheVariants.{Went, Call, HartEnd, Trapped, Leak}
 use Rattle.hart_turns.specs.declared.state.LiveCode.{LiveCode}
 use Rattle.hart_turns.specs.declared.state.Prepared.{Prepared}
 use Rattle.hart_turns.specs.declared.stepping.Step.{Step}

@@ -2,7 +2,7 @@
 ghost use Rattle.std.specs.Prelude.{◌≡◌, ◌+◌, ◌<◌, ◌≤◌, ◌^◌, ◌++◌, true, Some, [], drop, length, slice_get, IfOk, OnOk, OnErr};
 ghost use Rattle.sh_types.specs.Limits.{most_harts};
 ghost use Rattle.guest_mem.specs.Held.{plain_of, regions_of};
-ghost use Rattle.hart_step.specs.Fits.{Rises};
+ghost use Rattle.hart_acts.specs.Fits.{Rises};
 ghost use Rattle.hart_turns.specs.Calling.{answer_by, answer_for, call_at, lives_of, more_of, seen_of, with_output};
 ghost use Rattle.hart_turns.specs.Meant.{meant, IsLive, IsMapped, setting_of};
 

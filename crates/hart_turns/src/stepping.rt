@@ -140,8 +140,9 @@ fn run_to_call<F: Fetch>(
     done
 }
 
-/// Runs at least one and at most so many instructions of a hart that can go. A call of the environment is only the
-/// first. Err, and no change, only where memory is refused.
+/// Runs at least one and at most so many instructions of a hart that can go, and says how many. It ends before a call of
+/// the environment that is not the first, and where the hart can go no further. Err, and no change, only where memory is
+/// refused.
 pub fn run_hart<F: Fetch>(
     code: &LiveCode<'_>,
     state: &mut State,

@@ -3,7 +3,7 @@ use Rattle.sh_machines.specs.Serial.{is_done, turn_limit}
 use Rattle.shuf_machine.specs.Past.{Past}
 use Rattle.hart_runner.specs.Plans.{schedule_of}
 use Rattle.hart_runner.specs.Standing.{pace_of}
-use Rattle.hart_runner.proofs.First.{from_opening}
+use Rattle.hart_runner.proofs.Opening.{from_opening}
 use Rattle.hart_runner.proofs.Rounds.{serving_broken, serving_cut, served}
 use Rattle.hart_runner.proofs.Running.{all_of, begins, running_first, made_ready, running_on, cut_paced}
 use Rattle.hart_runner.proofs.Stills.{on_err}

@@ -7,7 +7,7 @@ use Rattle.shuf_machine.proofs.running.run.Goals as goal
 
 pub run_hart-requires-clause-code : goal.run_hart-requires-clause-code
 run_hart-requires-clause-code g c =
-    let ic = c.requires.is.code in record { runnable = ic.runnable; fits = ic.fits; setting = ic.setting; newest = ic.newest; older = ic.older }
+    let ic = c.requires.is.code in record { fits = ic.fits; setting = ic.setting; newest = ic.newest; older = ic.older }
 
 pub run_hart-requires-clause-reached : goal.run_hart-requires-clause-reached
 run_hart-requires-clause-reached g c = reached_by c.args.code.now c.args.state.now c.args.journal.now.items c.requires.is
