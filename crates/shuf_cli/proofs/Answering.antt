@@ -5,18 +5,18 @@ use Rattle.std.proofs.lemmas.Bool.{cases_eq}
 use Rattle.sh_base.specs.Held.{Stores, OthersStand}
 use Rattle.sh_base.specs.declared.files.FileWord.TheVariants as words
 use Rattle.sh_base.specs.Told.{FileAnswer}
-use Rattle.shuf_cli.specs.declared.words.Command.{Command}
-use Rattle.shuf_cli.specs.declared.due.Due.{Due}
+use Rattle.cli_rows.specs.declared.words.Command.{Command}
+use Rattle.cli_rows.specs.declared.due.Due.{Due}
 use Rattle.shuf_cli.specs.declared.due.Done.{Done}
-use Rattle.shuf_cli.specs.declared.due.FileStore.{FileStore}
+use Rattle.cli_rows.specs.declared.due.FileStore.{FileStore}
 use Rattle.shuf_cli.specs.declared.due.Outcome.{Outcome}
 use Rattle.sh_types.specs.declared.runs.NoMemory.{NoMemory}
 use Rattle.shuf_cli.specs.Answer.{FilesState, World, Grows, Wrote, Given, IsStored, IsUnstored, Delivered, CameOut, done_by, done_of, unstored_due}
-use Rattle.shuf_cli.specs.Lines.{unwritable_line}
+use Rattle.cli_rows.specs.Lines.{unwritable_line}
 use Rattle.shuf_cli.specs.Asked.{Loaded, Came, Stopped}
 use Rattle.shuf_cli.specs.Headline.{Answered}
-use Rattle.shuf_cli.specs.Rows.{Row, row_of}
-use Rattle.shuf_cli.proofs.Dues.{due_said, low}
+use Rattle.cli_rows.specs.Rows.{Row, row_of}
+use Rattle.cli_rows.proofs.Dues.{due_said, low}
 use Rattle.shuf_cli.proofs.Loading.{causes_last}
 
 module _ (row : Row) (files mid files' : FilesState) (same : files'.answered ≡ mid.answered) (grows : Grows mid files') where
@@ -59,7 +59,7 @@ module _ (command : Option Command) (seed : List ℕ) (w : World) (mid : FilesSt
   ]
 
   never_14 : Delivered due from_mid done → done.status ≢ 14
-  never_14 (inl (stored, given)) = low_status due (low due (due_said command seed came.loads due came.comes came.exited)) given
+  never_14 (inl (stored, given)) = low_status due (low due (due_said command seed came.loads due came.comes)) given
   never_14 (inr unstored) = by due.store unstored
     where
       by : (o : Option FileStore) → IsSomeAnd o (λ (store : FileStore). IsUnstored store mid w.files' × Gives (unstored_due store)) → done.status ≢ 14
@@ -70,7 +70,7 @@ module _ (command : Option Command) (seed : List ℕ) (w : World) (mid : FilesSt
   answered same grows delivered = record {
     loads = came.loads;
     loaded = loaded_last (row_of command seed) w.files mid w.files' same grows came.loads came.loaded;
-    delivered = λ ne. (due, came.comes, came.exited, delivered_from delivered);
+    delivered = λ ne. (due, came.comes, delivered_from delivered);
     memory = λ e. absurd (never_14 delivered e);
   }
 
@@ -93,7 +93,7 @@ refused_memory command seed w done is stopped out report = record {
 
 -- a status that is not that of a failed write or of want of memory is that of what is due
 pub due_low : (command : Option Command) (seed : List ℕ) (files files' : FilesState) (due : Due) → Came (row_of command seed) files files' due → due.status ≤ 12
-due_low command seed files files' due came = low due (due_said command seed came.loads due came.comes came.exited)
+due_low command seed files files' due came = low due (due_said command seed came.loads due came.comes)
 
 -- the answer that is made of an outcome
 delivered_by : (due : Due) (w : World) (o : Outcome) → CameOut due w o → Delivered due w (done_by due o)

@@ -4,28 +4,32 @@ use Rattle.std.specs.Prelude.{Option, Some, None, Contains, IsSomeAnd}
 use Rattle.std.proofs.lemmas.Bool.{cases_eq}
 use Rattle.sh_base.specs.Faults.{Rose}
 use Rattle.sh_base.specs.Told.{FileAnswer}
-use Rattle.shuf_cli.specs.declared.words.Command.{Command}
-use Rattle.shuf_cli.specs.declared.due.Due.{Due}
+use Rattle.cli_rows.specs.declared.words.Command.{Command}
+use Rattle.cli_rows.specs.declared.due.Due.{Due}
 use Rattle.shuf_cli.specs.declared.due.Done.{Done}
-use Rattle.shuf_cli.specs.declared.due.FileStore.{FileStore}
+use Rattle.cli_rows.specs.declared.due.FileStore.{FileStore}
 use Rattle.shuf_cli.specs.Answer.{SinkState, World, Given, Refused, IsStored, IsUnstored, Delivered, unstored_due}
-use Rattle.shuf_cli.specs.Dues.{usage_due}
+use Rattle.cli_rows.specs.Dues.{usage_due}
 use Rattle.shuf_cli.specs.Headline.{Answered}
-use Rattle.shuf_cli.specs.Rows.{row_of, comes_to, at_end}
-use Rattle.shuf_cli.specs.Said.{DueIsSaid, AnswerIsSaid}
-use Rattle.shuf_cli.proofs.Dues.{due_said, not_usage}
+use Rattle.cli_rows.specs.Rows.{row_of, comes_to, at_end}
+use Rattle.cli_rows.specs.Said.{DueIsSaid}
+use Rattle.shuf_cli.specs.Said.{AnswerIsSaid}
+use Rattle.cli_rows.proofs.Dues.{due_said, not_usage}
 
 refused_rose : (piece : Option (List ℕ)) (old new : SinkState) → Refused piece old new → Rose old.faults new.faults
 refused_rose None old new r = absurd r
 refused_rose (Some bytes) old new r = r.2
 
-widen : (s : ℕ) → Contains (0 ∷ 1 ∷ 10 ∷ 11 ∷ 12 ∷ []) s → Contains (0 ∷ 1 ∷ 10 ∷ 11 ∷ 12 ∷ 13 ∷ 14 ∷ []) s
+widen : (s : ℕ) → Contains (0 ∷ 1 ∷ 2 ∷ 3 ∷ 4 ∷ 10 ∷ 11 ∷ 12 ∷ []) s → Contains (0 ∷ 1 ∷ 2 ∷ 3 ∷ 4 ∷ 10 ∷ 11 ∷ 12 ∷ 13 ∷ 14 ∷ []) s
 widen s (zero, lt, is) = (0, omega arith, is)
 widen s (suc zero, lt, is) = (1, omega arith, is)
 widen s (suc (suc zero), lt, is) = (2, omega arith, is)
 widen s (suc (suc (suc zero)), lt, is) = (3, omega arith, is)
 widen s (suc (suc (suc (suc zero))), lt, is) = (4, omega arith, is)
-widen s (suc (suc (suc (suc (suc k)))), lt, is) = absurd (omega arith)
+widen s (suc (suc (suc (suc (suc zero)))), lt, is) = (5, omega arith, is)
+widen s (suc (suc (suc (suc (suc (suc zero))))), lt, is) = (6, omega arith, is)
+widen s (suc (suc (suc (suc (suc (suc (suc zero)))))), lt, is) = (7, omega arith, is)
+widen s (suc (suc (suc (suc (suc (suc (suc (suc k))))))), lt, is) = absurd (omega arith)
 
 -- none of the three is 11, 13 or 0
 apart : (s : ℕ) → Contains (10 ∷ 12 ∷ 14 ∷ []) s → (s ≢ 11) × (s ≢ 13) × (s ≢ 0)
@@ -66,14 +70,14 @@ module _ (command : Option Command) (seed : List ℕ) (w : World) (done : Done) 
   no_store_fails due store is same = absurd (cc)
 
   module _ (due : Due) (comes : comes_to (row_of command seed) a.loads ≡ Some due) (said : DueIsSaid due) where
-    statuses_by : Ending w due done → Contains (0 ∷ 1 ∷ 10 ∷ 11 ∷ 12 ∷ 13 ∷ 14 ∷ []) done.status
+    statuses_by : Ending w due done → Contains (0 ∷ 1 ∷ 2 ∷ 3 ∷ 4 ∷ 10 ∷ 11 ∷ 12 ∷ 13 ∷ 14 ∷ []) done.status
     statuses_by (whole stored given) = elim (cases_eq done.status 13) [
-      | inl thirteen ↦ (5, omega arith, sym thirteen)
-      | inr ne ↦ subst (Contains (0 ∷ 1 ∷ 10 ∷ 11 ∷ 12 ∷ 13 ∷ 14 ∷ [])) (sym (given.wrote.whole ne).0) (widen due.status said.statuses)
+      | inl thirteen ↦ (8, omega arith, sym thirteen)
+      | inr ne ↦ subst (Contains (0 ∷ 1 ∷ 2 ∷ 3 ∷ 4 ∷ 10 ∷ 11 ∷ 12 ∷ 13 ∷ 14 ∷ [])) (sym (given.wrote.whole ne).0) (widen due.status said.statuses)
     ]
     statuses_by (instead store is given) = elim (cases_eq done.status 13) [
-      | inl thirteen ↦ (5, omega arith, sym thirteen)
-      | inr ne ↦ (3, omega arith, sym (given.wrote.whole ne).0)
+      | inl thirteen ↦ (8, omega arith, sym thirteen)
+      | inr ne ↦ (6, omega arith, sym (given.wrote.whole ne).0)
     ]
 
     unstored_by : Ending w due done → Contains (10 ∷ 12 ∷ 14 ∷ []) done.status → w.files'.held ≡ w.files.held
@@ -118,7 +122,7 @@ module _ (command : Option Command) (seed : List ℕ) (w : World) (done : Done) 
     where
       by : (done.status ≡ 14) ⊎ (done.status ≢ 14) → AnswerIsSaid command w done
       by (inl gone) = record {
-        statuses = (6, omega arith, sym gone);
+        statuses = (9, omega arith, sym gone);
         unstored = λ among. (a.memory gone).held;
         usage = λ ten. absurd (omega (arith, gone, ten));
         no_command = λ none. (2, omega arith, sym gone);
@@ -126,8 +130,8 @@ module _ (command : Option Command) (seed : List ℕ) (w : World) (done : Done) 
         unmade = λ high ne. ((a.memory gone).end, (a.memory gone).machine);
       }
       by (inr ne) =
-          let (due, comes, exited, delivered) = a.delivered ne in
-          let said = due_said command seed a.loads due comes exited in
+          let (due, comes, delivered) = a.delivered ne in
+          let said = due_said command seed a.loads due comes in
           let e = ending w due done delivered in
           record {
             statuses = statuses_by due comes said e;

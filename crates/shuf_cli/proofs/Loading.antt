@@ -12,14 +12,13 @@ use Rattle.sh_base.specs.Held.{FileMap, Loads}
 use Rattle.sh_base.specs.Told.{FileAnswer}
 use Rattle.sh_base.specs.Tells.{gave, failed}
 use Rattle.sh_types.specs.declared.runs.NoMemory.{NoMemory}
-use Rattle.shuf_cli.specs.declared.words.Command.{Command}
-use Rattle.shuf_cli.specs.declared.due.Due.{Due}
+use Rattle.cli_rows.specs.declared.words.Command.{Command}
+use Rattle.cli_rows.specs.declared.due.Due.{Due}
 use Rattle.shuf_cli.specs.Answer.{FilesState, LoadRose, Grows}
 use Rattle.shuf_cli.specs.Asked.{AreAsked, HaveCauses, Loaded, Came, Stopped, Gave}
-use Rattle.shuf_cli.specs.Dues.{usage_due, unreadable_due, too_long_due}
-use Rattle.shuf_cli.specs.Rows.{Row, Load, Come, row_of, comes_to, AreOf}
-use Rattle.shuf_cli.specs.Run.{HasExited}
-use Rattle.shuf_cli.specs.Words.{same}
+use Rattle.cli_rows.specs.Dues.{usage_due, unreadable_due, too_long_due}
+use Rattle.cli_rows.specs.Rows.{Row, Load, Come, row_of, comes_to, AreOf}
+use Rattle.cli_rows.specs.Words.{same}
 
 same_self : (a : List ℕ) → same a a ≡ true
 same_self a = nat_list_eq_equiv.refl a
@@ -77,12 +76,11 @@ causes_last files mid files' (load ∷ rest) grows (cause, causes) = (of load.by
     of (Some bytes) t = tt
 
 -- nothing is loaded
-pub came_here : (due : Due) (files : FilesState) → HasExited due.machine → Came (Come due) files files due
-came_here due files exited = record {
+pub came_here : (due : Due) (files : FilesState) → Came (Come due) files files due
+came_here due files = record {
   loads = [];
   loaded = record { answered = nothing files.answered; asked = ([], refl); held = tt; causes = tt };
   comes = refl;
-  exited = exited;
   stands = refl;
   grown = λ n w. omega arith;
 }
@@ -108,7 +106,6 @@ module _ (name : List ℕ) (limit : ℕ) (files files' : FilesState) (adds : Add
     loads = failed name ∷ [];
     loaded = failed_loaded next answered rose;
     comes = comes_failed name limit next;
-    exited = tt;
     stands = stands;
     grown = call_grows name words.Load files files' adds;
   }
@@ -133,7 +130,6 @@ module _ (name : List ℕ) (limit : ℕ) (files files' : FilesState) (adds : Add
       loads = gave name bytes ∷ [];
       loaded = long_loaded next long;
       comes = comes_long name limit next bytes long;
-      exited = tt;
       stands = stands;
       grown = call_grows name words.Load files files' adds;
     }
@@ -156,7 +152,6 @@ module _ (name : List ℕ) (limit : ℕ) (next : List ℕ → Row) (files mid fi
     loads = gave name bytes ∷ rest.loads;
     loaded = loaded_on rest.loads rest.loaded;
     comes = comes_gave name limit next bytes rest.loads first.short ∙ rest.comes;
-    exited = rest.exited;
     stands = rest.stands ∙ first.stands;
     grown = λ n w. let a = first.grown n w in let b = rest.grown n w in omega arith;
   }
@@ -166,10 +161,10 @@ module _ (name : List ℕ) (limit : ℕ) (next : List ℕ → Row) (files mid fi
 
 -- a row of one load comes to what is due for its file
 pub came_one : (name : List ℕ) (limit : ℕ) (made : List ℕ → Due) (files files' : FilesState) (bytes : List ℕ) (due : Due)
-    → Gave name limit files files' bytes → due ≡ made bytes → HasExited due.machine → Came (Load name limit (λ b. Come (made b))) files files' due
-came_one name limit made files files' bytes due first is exited =
+    → Gave name limit files files' bytes → due ≡ made bytes → Came (Load name limit (λ b. Come (made b))) files files' due
+came_one name limit made files files' bytes due first is =
     came_on name limit (λ b. Come (made b)) files files' files' bytes first due
-    (subst (λ d. Came (Come d) files' files' due) is (came_here due files' exited))
+    (subst (λ d. Came (Come d) files' files' due) is (came_here due files'))
 
 pub stopped_one : (name : List ℕ) (limit : ℕ) (next : List ℕ → Row) (files files' : FilesState) (bytes : List ℕ)
     → Gave name limit files files' bytes → Stopped (Load name limit next) files files'
@@ -184,5 +179,5 @@ on_err (Err e) P p = p
 pub usage_came : (command : Option Command) (seed : List ℕ) (files : FilesState) (r : Result Due NoMemory) → command ≡ None → IfOk r (λ due. due ≡ usage_due)
     → IfOk r (λ due. Came (row_of command seed) files files due)
 usage_came command seed files (Ok due) none is =
-    subst (λ c. Came (row_of c seed) files files due) (sym none) (subst (λ d. Came (Come usage_due) files files d) (sym is) (came_here usage_due files tt))
+    subst (λ c. Came (row_of c seed) files files due) (sym none) (subst (λ d. Came (Come usage_due) files files d) (sym is) (came_here usage_due files))
 usage_came command seed files (Err e) none is = tt

@@ -8,13 +8,13 @@ use Rattle.std.proofs.lemmas.Bool.Decides.{nat_tests}
 use Rattle.sh_base.specs.Held.{FileMap, Loads}
 use Rattle.sh_base.specs.Told.{FileAnswer}
 use Rattle.sh_base.specs.Tells.{gave}
-use Rattle.shuf_cli.specs.declared.due.Due.{Due}
+use Rattle.cli_rows.specs.declared.due.Due.{Due}
 use Rattle.shuf_cli.specs.Answer.{FilesState, LoadRose}
 use Rattle.shuf_cli.specs.Asked.{Loaded}
-use Rattle.shuf_cli.specs.Dues.{unreadable_due, too_long_due}
-use Rattle.shuf_cli.specs.Rows.{Row, Load, at_end, after_load, bytes_of, comes_to, AreOf}
+use Rattle.cli_rows.specs.Dues.{unreadable_due, too_long_due}
+use Rattle.cli_rows.specs.Rows.{Row, Load, at_end, after_load, bytes_of, comes_to, AreOf}
 use Rattle.shuf_cli.specs.Said.{IsReadable, Lacks}
-use Rattle.shuf_cli.specs.Words.{same}
+use Rattle.cli_rows.specs.Words.{same}
 
 -- a held file within the limit is loaded as it is
 loaded_same : (held : Option FileMap) (name file loaded : List ℕ) (limit : ℕ) → IsSomeAnd held (λ files. map.get files name ≡ Some file) → length file ≤ limit

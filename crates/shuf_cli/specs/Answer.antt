@@ -7,13 +7,13 @@ use Rattle.sh_base.specs.Faults.{Rose, fault_count}
 use Rattle.sh_base.specs.Held.{FileMap, Stores, OthersStand}
 use Rattle.sh_base.specs.Told.{FileAnswer}
 use Rattle.sh_base.specs.Written.{Gains, GainsFront}
-use Rattle.shuf_cli.specs.declared.due.Due.{Due}
+use Rattle.cli_rows.specs.declared.due.Due.{Due}
 use Rattle.shuf_cli.specs.declared.due.Done.{Done}
-use Rattle.shuf_cli.specs.declared.due.FileStore.{FileStore}
+use Rattle.cli_rows.specs.declared.due.FileStore.{FileStore}
 use Rattle.shuf_cli.specs.declared.due.Outcome.{Outcome}
 use Rattle.sh_types.specs.declared.runs.NoMemory.{NoMemory}
-use Rattle.shuf_cli.specs.Dues.{line_due}
-use Rattle.shuf_cli.specs.Lines.{unwritable_line}
+use Rattle.cli_rows.specs.Dues.{line_due}
+use Rattle.cli_rows.specs.Lines.{unwritable_line}
 
 -- what a sink means: the bytes written, where they are told, the pieces that were taken whole, and how often a write
 -- failed

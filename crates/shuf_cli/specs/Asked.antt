@@ -3,12 +3,11 @@ use Rattle.std.specs.Prelude.{◌≡◌, List, ℕ, ◌≤◌, length, [], ◌�
 use Rattle.sh_base.specs.Told.{FileAnswer}
 use Rattle.sh_base.specs.Tells.{gave}
 use Rattle.sh_base.specs.Held.{Loads}
-use Rattle.shuf_cli.specs.declared.due.Due.{Due}
+use Rattle.cli_rows.specs.declared.due.Due.{Due}
 use Rattle.shuf_cli.specs.declared.due.FileOr.{FileOr}
 use Rattle.shuf_cli.specs.declared.due.FileOr.TheVariants.{File, Instead}
 use Rattle.shuf_cli.specs.Answer.{FilesState, LoadRose, Grows}
-use Rattle.shuf_cli.specs.Rows.{Row, Load, comes_to, AreOf}
-use Rattle.shuf_cli.specs.Run.{HasExited}
+use Rattle.cli_rows.specs.Rows.{Row, Load, comes_to, AreOf}
 
 -- these are loads that the row asks for, in its order: with some more of them it comes to what is due
 abbrev pub AreAsked : Row → List FileAnswer → Type 0
@@ -31,7 +30,6 @@ pub record Came (row : Row) (files files' : FilesState) (due : Due) : Type 0 whe
   pub loads : List FileAnswer
   pub loaded : Loaded row files files' loads
   pub comes : comes_to row loads ≡ Some due
-  pub exited : HasExited due.machine
   pub stands : files'.held ≡ files.held
   pub grown : Grows files files'
 

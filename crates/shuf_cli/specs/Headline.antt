@@ -1,13 +1,12 @@
 -- What the top call promises.
 use Rattle.std.specs.Prelude.{◌≡◌, ◌≢◌, ℕ, List, Option, Some}
 use Rattle.sh_base.specs.Told.{FileAnswer}
-use Rattle.shuf_cli.specs.declared.words.Command.{Command}
-use Rattle.shuf_cli.specs.declared.due.Due.{Due}
+use Rattle.cli_rows.specs.declared.words.Command.{Command}
+use Rattle.cli_rows.specs.declared.due.Due.{Due}
 use Rattle.shuf_cli.specs.declared.due.Done.{Done}
 use Rattle.shuf_cli.specs.Answer.{World, Delivered, OutOfMemory}
 use Rattle.shuf_cli.specs.Asked.{Loaded}
-use Rattle.shuf_cli.specs.Rows.{row_of, comes_to}
-use Rattle.shuf_cli.specs.Run.{HasExited}
+use Rattle.cli_rows.specs.Rows.{row_of, comes_to}
 
 -- the answer to a command
 pub record Answered (command : Option Command) (seed : List ℕ) (w : World) (done : Done) : Type 0 where
@@ -15,7 +14,7 @@ pub record Answered (command : Option Command) (seed : List ℕ) (w : World) (do
   -- and one that failed has its cause
   pub loads : List FileAnswer
   pub loaded : Loaded (row_of command seed) w.files w.files' loads
-  -- what the row comes to by them was delivered, unless memory was refused; its machine, if any, has come to an exit
-  pub delivered : done.status ≢ 14 → (due : Due) × (comes_to (row_of command seed) loads ≡ Some due) × HasExited due.machine × Delivered due w done
+  -- what the row comes to by them was delivered, unless memory was refused
+  pub delivered : done.status ≢ 14 → (due : Due) × (comes_to (row_of command seed) loads ≡ Some due) × Delivered due w done
   -- nothing was written or stored
   pub memory : done.status ≡ 14 → OutOfMemory w done

@@ -1,11 +1,4 @@
 pub mod Answer
 pub mod Asked
-pub mod Dues
 pub mod Headline
-pub mod Limits
-pub mod Lines
-pub mod Rows
-pub mod Run
 pub mod Said
-pub mod Words
-pub mod Written

@@ -1,25 +1,18 @@
--- What is read off the commands' rows, of what is due and of every answer.
+-- What is read off every answer.
 use Rattle.std.specs.Prelude.{◌≡◌, ◌≢◌, ◌⊎◌, ℕ, ◌<◌, ◌≤◌, ⊤, List, [], ◌∷◌, length, Option, None, Some, Contains, IsSomeAnd, MatchOption}
 use Rattle.std.specs.FinMap as map
 use Rattle.sh_base.specs.declared.files.FileWord.TheVariants.{Load}
 use Rattle.sh_base.specs.Faults.{Rose, fault_count}
 use Rattle.sh_base.specs.Held.{FileMap}
-use Rattle.shuf_cli.specs.declared.words.Command.{Command}
-use Rattle.shuf_cli.specs.declared.due.Due.{Due}
+use Rattle.cli_rows.specs.declared.words.Command.{Command}
 use Rattle.shuf_cli.specs.declared.due.Done.{Done}
 use Rattle.shuf_cli.specs.Answer.{FilesState, World}
-
--- what is due has one of these statuses, stores with 0 alone, and has an end and a machine with 0 and 1 alone
-pub record DueIsSaid (due : Due) : Type 0 where
-  pub statuses : Contains (0 ∷ 1 ∷ 10 ∷ 11 ∷ 12 ∷ []) due.status
-  pub stores : due.status ≢ 0 → due.store ≡ None
-  pub unmade : 10 ≤ due.status → (due.end ≡ None) × (due.machine ≡ None)
 
 -- an answer has one of these statuses; with 10, 12 and 14 nothing is stored; 10 comes exactly where the words are no
 -- command, but for a sink that failed and for want of memory; 13 only where a sink failed in this call; and there is an
 -- end and a machine only where a run was made
 pub record AnswerIsSaid (command : Option Command) (w : World) (done : Done) : Type 0 where
-  pub statuses : Contains (0 ∷ 1 ∷ 10 ∷ 11 ∷ 12 ∷ 13 ∷ 14 ∷ []) done.status
+  pub statuses : Contains (0 ∷ 1 ∷ 2 ∷ 3 ∷ 4 ∷ 10 ∷ 11 ∷ 12 ∷ 13 ∷ 14 ∷ []) done.status
   pub unstored : Contains (10 ∷ 12 ∷ 14 ∷ []) done.status → w.files'.held ≡ w.files.held
   pub usage : done.status ≡ 10 → command ≡ None
   pub no_command : command ≡ None → Contains (10 ∷ 13 ∷ 14 ∷ []) done.status

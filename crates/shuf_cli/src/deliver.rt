@@ -1,12 +1,13 @@
 //! How what is due is delivered: the store first, then out, then the report.
 ghost use Rattle.std.specs.Prelude.{◌≡◌, ◌≢◌, None, IfOk, OnErr, MatchOption, IsSomeAnd};
 ghost use Rattle.std.specs.Bool.{OnTrue, OnFalse};
-ghost use Rattle.shuf_cli.specs.declared.due.FileStore.{FileStore};
+ghost use Rattle.cli_rows.specs.declared.due.Due.{Due};
+ghost use Rattle.cli_rows.specs.declared.due.FileStore.{FileStore};
 ghost use Rattle.shuf_cli.specs.Answer.{Took, Refused, Wrote, CameOut, Grows, IsKept, IsStored, IsUnstored, done_by, done_of};
-ghost use Rattle.shuf_cli.specs.Lines.{unwritable_line};
+ghost use Rattle.cli_rows.specs.Lines.{unwritable_line};
 
-use crate::lines::unwritable;
-use crate::{Done, Due, FileStore, Outcome};
+use crate::{Done, Outcome};
+use cli_rows::{Due, FileStore, unwritable};
 use sh_base::{FileFault, Files, Sink};
 use sh_types::{Bytes, NoMemory};
 use std::alloc::Global;
@@ -169,14 +170,24 @@ fn ended(due: Due, outcome: Outcome) -> Done
     }
 }
 
+/// The outcome, and that of a store that failed with the status 14 where memory was refused.
+fn settled(outcome: Result<Outcome, NoMemory>) -> Outcome
+    ensures { (due : Due) → done_by due result ≡ done_of due outcome }
+{
+    match outcome {
+        Ok(outcome) => outcome,
+        Err(NoMemory) => Outcome {
+            status: NO_MEMORY,
+            stored: false,
+        },
+    }
+}
+
 /// The answer, by what was due and how it was delivered.
 pub fn finish(due: Due, outcome: Result<Outcome, NoMemory>) -> Done
     ensures { result ≡ done_of due outcome }
 {
-    match outcome {
-        Ok(outcome) => ended(due, outcome),
-        Err(NoMemory) => no_memory(),
-    }
+    ended(due, settled(outcome))
 }
 
 /// The answer where memory was refused.

@@ -1,25 +1,8 @@
-//! What is due, and the answer.
+//! A file or what is due in its place, and the answer.
 
-use sh_types::{Bytes, End, Name};
+use cli_rows::Due;
+use sh_types::{Bytes, End};
 use shuf_machine::Machine;
-
-/// A store that is due: these bytes under the name.
-#[derive(Debug, Drop)]
-pub struct FileStore {
-    pub name: Name,
-    pub bytes: Bytes,
-}
-
-/// What is due: at most one store, to each sink one piece or nothing at all, and the answer where all is taken.
-#[derive(Debug, Drop)]
-pub struct Due {
-    pub store: Option<FileStore>,
-    pub out: Option<Bytes>,
-    pub report: Option<Bytes>,
-    pub status: u8,
-    pub end: Option<End>,
-    pub machine: Option<Machine>,
-}
 
 /// A file that was loaded, or what is due in its place.
 #[derive(Debug, Drop)]

@@ -1,23 +1,15 @@
-//! What is read off the rows, as clauses of functions that do nothing.
+//! What is read off the rows and off every answer, as clauses of functions that do nothing.
 ghost use Rattle.std.specs.Prelude.{◌≡◌, List, ◌∷◌, ℕ, Option, Some};
 ghost use Rattle.sh_base.specs.Told.{FileAnswer};
 ghost use Rattle.sh_base.specs.Tells.{gave};
-ghost use Rattle.shuf_cli.specs.declared.words.Command.{Command};
-ghost use Rattle.shuf_cli.specs.declared.due.Due.{Due};
+ghost use Rattle.cli_rows.specs.declared.words.Command.{Command};
+ghost use Rattle.cli_rows.specs.declared.due.Due.{Due};
 ghost use Rattle.shuf_cli.specs.declared.due.Done.{Done};
 ghost use Rattle.shuf_cli.specs.Answer.{FilesState, World};
 ghost use Rattle.shuf_cli.specs.Asked.{Loaded};
 ghost use Rattle.shuf_cli.specs.Headline.{Answered};
-ghost use Rattle.shuf_cli.specs.Rows.{Row, Load, row_of, comes_to};
-ghost use Rattle.shuf_cli.specs.Run.{HasExited};
-ghost use Rattle.shuf_cli.specs.Said.{DueIsSaid, AnswerIsSaid, IsReadable, Lacks};
-
-/// What may be due at all.
-#[tactic(auto, using(crate::proofs::Dues::due_said))]
-pub fn dues_are_said()
-    ensures { (command : Option Command) (seed : List ℕ) (loads : List FileAnswer) (due : Due) → comes_to (row_of command seed) loads ≡ Some due
-        → HasExited due.machine → DueIsSaid due }
-{}
+ghost use Rattle.cli_rows.specs.Rows.{Row, Load, comes_to};
+ghost use Rattle.shuf_cli.specs.Said.{AnswerIsSaid, IsReadable, Lacks};
 
 /// What the status of an answer says by itself.
 pub fn answers_are_said()

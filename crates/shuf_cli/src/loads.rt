@@ -1,10 +1,10 @@
 //! The loads of a command.
 ghost use Rattle.std.specs.Prelude.{List, ℕ, IfOk, OnErr};
 ghost use Rattle.shuf_cli.specs.Asked.{Gives, Stopped};
-ghost use Rattle.shuf_cli.specs.Rows.{Row, Load};
+ghost use Rattle.cli_rows.specs.Rows.{Row, Load};
 
 use crate::FileOr;
-use crate::lines::{too_long, unreadable};
+use cli_rows::{too_long, unreadable};
 use sh_base::{FileFault, Files};
 use sh_types::NoMemory;
 use std::alloc::Global;

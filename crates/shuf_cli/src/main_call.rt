@@ -1,5 +1,5 @@
 //! The top call with workers.
-ghost use Rattle.shuf_cli.specs.Words.{texts, command_of};
+ghost use Rattle.cli_rows.specs.Words.{texts, command_of};
 ghost use Rattle.shuf_cli.specs.Headline.{Answered};
 
 use crate::{Done, serial_command};

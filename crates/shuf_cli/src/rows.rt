@@ -1,17 +1,13 @@
 //! The commands, a function each: what it loads, and what is due by that.
 ghost use Rattle.std.specs.Prelude.{IfOk, OnErr};
 ghost use Rattle.shuf_cli.specs.Asked.{Came, Stopped};
-ghost use Rattle.shuf_cli.specs.Rows.{run_row, check_row, asm_row, row_of};
-ghost use Rattle.shuf_cli.specs.Words.{texts, command_of};
+ghost use Rattle.cli_rows.specs.Rows.{run_row, check_row, asm_row, row_of};
+ghost use Rattle.cli_rows.specs.Words.{texts, command_of};
 ghost use Rattle.std.specs.Prelude.{Some};
 
-use crate::asm::of_asm;
-use crate::check::of_check;
-use crate::limits::FILE_LIMIT;
-use crate::lines::usage;
+use crate::FileOr;
 use crate::loads::load_file;
-use crate::run::of_run;
-use crate::{Command, Due, FileOr, WordFault, read_words};
+use cli_rows::{Command, Due, FILE_LIMIT, WordFault, of_asm, of_check, of_run, read_words, usage};
 use sh_base::Files;
 use sh_types::NoMemory;
 use std::alloc::Global;

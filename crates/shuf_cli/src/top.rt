@@ -1,5 +1,5 @@
 //! The top call: all that the program does.
-ghost use Rattle.shuf_cli.specs.Words.{texts, command_of};
+ghost use Rattle.cli_rows.specs.Words.{texts, command_of};
 ghost use Rattle.shuf_cli.specs.Headline.{Answered};
 
 use crate::Done;
@@ -12,9 +12,8 @@ use std::thread::Threads;
 /// Does a command: `words` are those of the command line, `seed` is that of the layouts. It loads from `files`. For a
 /// run it writes to `out` what the guest wrote and to `report` the report on the run; for a check it writes to `out`
 /// the list of the executable; for an assembly it stores the executable in `files` and writes nothing. Else it writes
-/// one line to `report`. A guest is run only where its image is thin, it
-/// comes to an exit within 100,000 instructions and makes no other call of the environment before than write. It
-/// waits for nobody.
+/// one line to `report`. A guest of every accepted file is run, until it ends or has had 100,000,000 instructions,
+/// with no input and a new layout after every 100,000 instructions. It waits for nobody.
 pub fn serial_command<R: Threads + Sync, F: Files, O: Sink, E: Sink>(
     rt: &R,
     alloc: Global,

@@ -4,7 +4,7 @@ use Rattle.std.proofs.lemmas.Bool.Decides.{nat_tests}
 use Rattle.sh_base.specs.Tells.{answered_after}
 use Rattle.shuf_cli.specs.Answer.{FilesState}
 use Rattle.shuf_cli.specs.Asked.{Came, Stopped}
-use Rattle.shuf_cli.specs.Rows.{Row, Load}
+use Rattle.cli_rows.specs.Rows.{Row, Load}
 use Rattle.shuf_cli.proofs.Loading.{came_long, stopped_long, stopped_here, on_err}
 use Rattle.shuf_cli.proofs.loads.load_file.Goals as goal
 

@@ -3,10 +3,10 @@ use Rattle.std.specs.Prelude.{ℕ, ◌&&◌, Bool, true, false, not, if◌then�
 use Rattle.std.specs.List.{starts_with}
 use Rattle.std.specs.Cmp.Lexicographic.{pointwise}
 use Rattle.std.specs.declared.alloc.Global.{Global}
-use Rattle.shuf_cli.specs.declared.words.Command.{Command}
-use Rattle.shuf_cli.specs.declared.words.Command.TheVariants.{Run, Check, Asm}
-use Rattle.shuf_cli.specs.declared.words.Opts.{Opts}
-use Rattle.shuf_cli.specs.Limits.{default_period, default_quantum, default_steps, default_workers}
+use Rattle.cli_rows.specs.declared.words.Command.{Command}
+use Rattle.cli_rows.specs.declared.words.Command.TheVariants.{Run, Check, Asm}
+use Rattle.cli_rows.specs.declared.words.Opts.{Opts}
+use Rattle.cli_rows.specs.Limits.{default_period, default_quantum, default_steps, default_workers}
 
 -- two texts are one
 abbrev pub same : List ℕ → List ℕ → Bool

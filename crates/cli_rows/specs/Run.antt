@@ -1,19 +1,16 @@
 -- What a run of a file comes to, by the unmoved machine alone.
-use Rattle.std.specs.Prelude.{ℕ, Bool, true, false, List, [], Option, Some, None, if◌then◌else◌, nat_lt, IfSome, ◌≡◌}
+use Rattle.std.specs.Prelude.{ℕ, List, [], Option, Some, None, if◌then◌else◌, nat_lt}
 use Rattle.sh_types.specs.declared.code.Image.{Image}
 use Rattle.sh_types.specs.declared.runs.End.{End}
 use Rattle.sh_types.specs.declared.runs.End.TheVariants.{Exit, Trapped, Leak}
 use Rattle.sh_machines.specs.Serial.{Schedule, serial_list}
-use Rattle.image_rules.specs.Thin.{thin_image}
+use Rattle.image_rules.specs.Framed.{framed_image}
 use Rattle.shuf_machine.specs.declared.answers.Origin.{Origin}
 use Rattle.shuf_machine.specs.Past.{Past, guest_of, opening}
-use Rattle.hart_runner.specs.Built.{is_built, exits_or}
 use Rattle.period_report.specs.declared.writer.Form.TheVariants.{Short}
 use Rattle.period_report.specs.Text.{report_text}
-use Rattle.shuf_cli.specs.declared.due.Due.{Due}
-use Rattle.shuf_cli.specs.Dues.{line_due}
-use Rattle.shuf_cli.specs.Limits.{default_period, default_quantum, default_steps}
-use Rattle.shuf_cli.specs.Lines.{not_built_line}
+use Rattle.cli_rows.specs.declared.due.Due.{Due}
+use Rattle.cli_rows.specs.Limits.{default_period, default_quantum, default_steps}
 
 -- how each run goes
 abbrev pub schedule : Schedule
@@ -57,30 +54,6 @@ ran_due m = record {
   machine = Some m;
 }
 
-abbrev pub not_built_due : Due
-not_built_due = line_due 12 not_built_line
-
--- by whether the run is made
-abbrev pub made_due : Bool → Past → Due
-made_due built m = if built then ran_due m else not_built_due
-
--- of a machine that has done nothing: the run is made where the unmoved machine comes to an exit with what is built
-abbrev pub run_due_of : Past → Due
-run_due_of m = made_due (is_built default_period m.image m.origin.input) (run_of m)
-
--- of the file's image
-abbrev pub built_due : Image → (file seed : List ℕ) → Due
-built_due image file seed = run_due_of (opening image (origin_of file seed))
-
--- of an accepted file: a thin one alone is run
-abbrev pub thin_due : Option Image → (file seed : List ℕ) → Due
-thin_due None file seed = not_built_due
-thin_due (Some image) file seed = built_due image file seed
-
 -- a run of an accepted file
 abbrev pub accepted_due : (file seed : List ℕ) → Due
-accepted_due file seed = thin_due (thin_image file) file seed
-
--- a machine that is handed out has come to an exit
-abbrev pub HasExited : Option Past → Type 0
-HasExited machine = IfSome machine (λ m. exits_or (guest_of m).end false ≡ true)
+accepted_due file seed = ran_due (past_of (framed_image file) file seed)

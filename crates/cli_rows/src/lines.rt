@@ -1,9 +1,8 @@
 //! What is due where nothing else is: one line to the report, or a text to out.
 ghost use Rattle.std.specs.Prelude.{◌≡◌, ◌≢◌, IfOk, string_bytes, decimal};
 ghost use Rattle.image_text.specs.Lines.{fault_line, source_line as source_line_of};
-ghost use Rattle.shuf_cli.specs.Dues.{line_due, text_due, usage_due, unreadable_due, too_long_due};
-ghost use Rattle.shuf_cli.specs.Lines.{unwritable_line, longer_front};
-ghost use Rattle.shuf_cli.specs.Run.{not_built_due};
+ghost use Rattle.cli_rows.specs.Dues.{line_due, text_due, usage_due, unreadable_due, too_long_due};
+ghost use Rattle.cli_rows.specs.Lines.{unwritable_line, longer_front};
 
 use crate::Due;
 use asm_text::AsmRule;
@@ -13,17 +12,24 @@ use sh_types::{Bytes, NoMemory};
 use std::alloc::{AllocError, Global};
 
 /// A refusal: its line alone is due.
-pub fn refusal(status: u8, line: String) -> Due
-    ensures { result ≡ line_due status (string_bytes line) }
+fn refusal_in_bytes(status: u8, line: Bytes) -> Due
+    ensures { result ≡ line_due status line }
 {
     Due {
         store: None,
         out: None,
-        report: Some(Bytes::from_vec(line.into_bytes())),
+        report: Some(line),
         status,
         end: None,
         machine: None,
     }
+}
+
+/// A refusal whose line is text.
+fn refusal(status: u8, line: String) -> Due
+    ensures { result ≡ line_due status (string_bytes line) }
+{
+    refusal_in_bytes(status, Bytes::from_vec(line.into_bytes()))
 }
 
 /// The text alone is due, to out.
@@ -40,6 +46,7 @@ pub fn text(text: Bytes) -> Due
     }
 }
 
+/// The line on words that are no command is due. Err only where memory is refused.
 #[tactic(auto, unfolding(crate::specs::Lines::usage_line))]
 pub fn usage(alloc: Global) -> Result<Due, NoMemory>
     ensures { IfOk result (λ due. due ≡ usage_due) }
@@ -47,6 +54,7 @@ pub fn usage(alloc: Global) -> Result<Due, NoMemory>
     Ok(refusal(10, String::from_str(alloc, "shuffler: usage\n")?))
 }
 
+/// The line on a file that cannot be read is due. Err only where memory is refused.
 #[tactic(auto, unfolding(crate::specs::Lines::unreadable_line))]
 pub fn unreadable(alloc: Global, name: &str) -> Result<Due, NoMemory>
     ensures { IfOk result (λ due. due ≡ unreadable_due name.now) }
@@ -55,6 +63,7 @@ pub fn unreadable(alloc: Global, name: &str) -> Result<Due, NoMemory>
     Ok(refusal(11, line))
 }
 
+/// The line on a file that cannot be written. Err only where memory is refused.
 #[tactic(auto, unfolding(crate::specs::Lines::unwritable_line))]
 pub fn unwritable(alloc: Global, name: &str) -> Result<Bytes, NoMemory>
     ensures { IfOk result (λ line. line ≡ unwritable_line name.now) }
@@ -76,6 +85,7 @@ fn longer(alloc: Global, name: &str) -> Result<String, AllocError>
     format!(in alloc; "shuffler: file {name} is longer than ")
 }
 
+/// The line on a file of more than `limit` bytes is due. Err only where memory is refused.
 pub fn too_long(alloc: Global, name: &str, limit: u64) -> Result<Due, NoMemory>
     ensures { IfOk result (λ due. due ≡ too_long_due name.now limit) }
 {
@@ -86,21 +96,13 @@ pub fn too_long(alloc: Global, name: &str, limit: u64) -> Result<Due, NoMemory>
     Ok(refusal(11, line))
 }
 
-#[tactic(auto, unfolding(crate::specs::Lines::not_built_line))]
-pub fn not_built(alloc: Global) -> Result<Due, NoMemory>
-    ensures { IfOk result (λ due. due ≡ not_built_due) }
-{
-    let line = String::from_str(alloc, "shuffler: refused: not built\n")?;
-    Ok(refusal(12, line))
-}
-
 /// The line on a file that is refused is due. Want of memory is no refusal.
 pub fn refused(alloc: Global, fault: LoadFault) -> Result<Due, NoMemory>
     requires { fault ≢ LoadFault.NoMemory }
     ensures { IfOk result (λ due. due ≡ line_due 12 (fault_line fault)) }
 {
     let line = refusal_line(alloc, fault)?;
-    Ok(refusal(12, line))
+    Ok(refusal_in_bytes(12, line))
 }
 
 /// The line on a source that is refused is due.

@@ -15,6 +15,3 @@ longer_front name = codes "shuffler: file " ++ name ++ codes " is longer than "
 
 abbrev pub too_long_line : (name : List ℕ) → (limit : ℕ) → List ℕ
 too_long_line name limit = (longer_front name ++ decimal limit) ++ codes " bytes\n"
-
-unfoldable pub not_built_line : List ℕ
-not_built_line = codes "shuffler: refused: not built\n"

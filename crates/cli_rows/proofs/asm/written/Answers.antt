@@ -1,5 +1,5 @@
-use Rattle.shuf_cli.proofs.Assembling.{writable}
-use Rattle.shuf_cli.proofs.asm.written.Goals as goal
+use Rattle.cli_rows.proofs.Assembling.{writable}
+use Rattle.cli_rows.proofs.asm.written.Goals as goal
 
 pub write_elf-requires : goal.write_elf-requires
 write_elf-requires c =

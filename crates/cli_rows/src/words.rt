@@ -1,6 +1,6 @@
 //! The words of a command line.
 ghost use Rattle.std.specs.Prelude.{◌≡◌, IfOk, IsErrOf, IsSome, None, Some};
-ghost use Rattle.shuf_cli.specs.Words.{texts, is_file_word, default_opts, run_of, asm_of, check_of, three_of, command_of};
+ghost use Rattle.cli_rows.specs.Words.{texts, is_file_word, default_opts, run_of, asm_of, check_of, three_of, command_of};
 
 use crate::limits::{PERIOD, QUANTUM, STEPS, WORKERS};
 use sh_types::Name;

@@ -2,43 +2,31 @@
 use Rattle.std.proofs.Common.{◌≡◌, ◌≤◌, ℕ, zero, suc, List, [], ◌∷◌, Bool, true, false, refl, arith}
 use Rattle.std.specs.Prelude.{Option, Some, None, nat_lt, if◌then◌else◌, Contains}
 use Rattle.sh_base.specs.Told.{FileAnswer}
-use Rattle.sh_types.specs.declared.code.Image.{Image}
 use Rattle.elf_rules.specs.declared.refusals.LoadFault.{LoadFault}
 use Rattle.sh_types.specs.declared.runs.End.{End}
 use Rattle.sh_types.specs.declared.runs.End.TheVariants.{Exit, Trapped, Leak}
-use Rattle.elf_rules.specs.Accepted.{mapped_by, refusal_of}
-use Rattle.image_rules.specs.Bound.{bound_image}
+use Rattle.elf_rules.specs.Bindable.{mapped_by}
+use Rattle.image_rules.specs.Framed.{framed_image, refusal_of}
 use Rattle.elf_rules.specs.Elf.{segments_of}
-use Rattle.image_rules.specs.Thin.{thin_image}
 use Rattle.asm_text.specs.declared.faults.LineFault.{LineFault}
 use Rattle.rv_asm.specs.Object.{object_of}
 use Rattle.rv_asm.specs.Passes.{fault_of}
 use Rattle.elf_write.specs.Written.{elf_file}
 use Rattle.image_text.specs.Listing.{listing_of}
 use Rattle.shuf_machine.specs.Past.{Past, guest_of}
-use Rattle.hart_runner.specs.Built.{is_built, exits_or}
-use Rattle.shuf_cli.specs.declared.words.Command.{Command}
-use Rattle.shuf_cli.specs.declared.words.Command.TheVariants.{Run, Check, Asm}
-use Rattle.shuf_cli.specs.declared.due.Due.{Due}
-use Rattle.shuf_cli.specs.Dues.{line_due, text_due, store_due}
-use Rattle.shuf_cli.specs.Limits.{default_period}
-use Rattle.shuf_cli.specs.Lines.{usage_line, not_built_line}
-use Rattle.shuf_cli.specs.Rows.{row_of, comes_to, unless_refused, unless_faulty}
-use Rattle.shuf_cli.specs.Run.{run_status, ran_due, past_of, thin_due, accepted_due, HasExited, no_input}
-use Rattle.shuf_cli.specs.Said.{DueIsSaid}
-use Rattle.shuf_cli.proofs.Each.{EachDue, each}
+use Rattle.cli_rows.specs.declared.words.Command.{Command}
+use Rattle.cli_rows.specs.declared.words.Command.TheVariants.{Run, Check, Asm}
+use Rattle.cli_rows.specs.declared.due.Due.{Due}
+use Rattle.cli_rows.specs.Dues.{line_due, text_due, store_due}
+use Rattle.cli_rows.specs.Lines.{usage_line}
+use Rattle.cli_rows.specs.Rows.{row_of, comes_to, unless_refused, unless_faulty}
+use Rattle.cli_rows.specs.Run.{run_status, ran_due, past_of, accepted_due}
+use Rattle.cli_rows.specs.Said.{DueIsSaid}
+use Rattle.cli_rows.proofs.Each.{EachDue, each}
 
 -- what is said of all lines, texts, stores and runs is said of all that the commands come to
 module _ (P : Due → Type 0) (lines : (line : List ℕ) → P (line_due 12 line)) (text : (t : List ℕ) → P (text_due t))
     (store : (name bytes : List ℕ) → P (store_due name bytes)) (run : (m : Past) → P (ran_due m)) where
-  of_built : (b : Bool) (m : Past) → P (if b then ran_due m else line_due 12 not_built_line)
-  of_built true m = run m
-  of_built false m = lines not_built_line
-
-  of_thin : (image : Option Image) (file seed : List ℕ) → P (thin_due image file seed)
-  of_thin None file seed = lines not_built_line
-  of_thin (Some image) file seed = of_built (is_built default_period image no_input) (past_of image file seed)
-
   of_refusal : (refusal : Option LoadFault) (due : Due) → P due → P (unless_refused refusal due)
   of_refusal None due p = p
   of_refusal (Some fault) due p = lines _
@@ -48,48 +36,49 @@ module _ (P : Due → Type 0) (lines : (line : List ℕ) → P (line_due 12 line
   of_fault (Some fault) due p = lines _
 
   pub of_command : (command : Command) (seed : List ℕ) → EachDue P (row_of (Some command) seed)
-  of_command (Run name opts) seed = λ file. of_refusal (refusal_of file) (accepted_due file seed) (of_thin (thin_image file) file seed)
-  of_command (Check name) seed = λ file. of_refusal (refusal_of file) (text_due (listing_of (bound_image file) (mapped_by (segments_of file)))) (text _)
+  of_command (Run name opts) seed = λ file. of_refusal (refusal_of file) (accepted_due file seed) (run (past_of (framed_image file) file seed))
+  of_command (Check name) seed = λ file. of_refusal (refusal_of file) (text_due (listing_of (framed_image file) (mapped_by (segments_of file)))) (text _)
   of_command (Asm source target) seed = λ source. of_fault (fault_of source) (store_due target (elf_file (object_of source))) (store target _)
 
   pub of_row : P (line_due 10 usage_line) → (command : Option Command) (seed : List ℕ) → EachDue P (row_of command seed)
   of_row usage None seed = usage
   of_row usage (Some command) seed = of_command command seed
 
-line_said : (status : ℕ) (line : List ℕ) → Contains (0 ∷ 1 ∷ 10 ∷ 11 ∷ 12 ∷ []) status → DueIsSaid (line_due status line)
+line_said : (status : ℕ) (line : List ℕ) → Contains (0 ∷ 1 ∷ 2 ∷ 3 ∷ 4 ∷ 10 ∷ 11 ∷ 12 ∷ []) status → DueIsSaid (line_due status line)
 line_said status line among = record { statuses = among; stores = λ ne. refl; unmade = λ high. (refl, refl) }
 
 abbrev bit : Bool → ℕ
 bit b = if b then 1 else 0
 
-exit_small : (end : Option End) → exits_or end false ≡ true → Contains (0 ∷ 1 ∷ []) (run_status end)
-exit_small None e = absurd (cc)
-exit_small (Some (Exit code)) e = by (nat_lt 0 code)
+-- a run has one of the first five statuses
+run_small : (end : Option End) → Contains (0 ∷ 1 ∷ 2 ∷ 3 ∷ 4 ∷ []) (run_status end)
+run_small None = (4, omega arith, refl)
+run_small (Some (Exit code)) = by (nat_lt 0 code)
   where
-    by : (b : Bool) → Contains (0 ∷ 1 ∷ []) (bit b)
+    by : (b : Bool) → Contains (0 ∷ 1 ∷ 2 ∷ 3 ∷ 4 ∷ []) (bit b)
     by true = (1, omega arith, refl)
     by false = (0, omega arith, refl)
-exit_small (Some (Trapped kind hart pair value)) e = absurd (cc)
-exit_small (Some (Leak hart pair)) e = absurd (cc)
+run_small (Some (Trapped kind hart pair value)) = (2, omega arith, refl)
+run_small (Some (Leak hart pair)) = (3, omega arith, refl)
 
-abbrev Said : Due → Type 0
-Said due = HasExited due.machine → DueIsSaid due
-
-ran_said : (m : Past) → Said (ran_due m)
-ran_said m exited = said (run_status (guest_of m).end) (exit_small (guest_of m).end exited)
+ran_said : (m : Past) → DueIsSaid (ran_due m)
+ran_said m = said (run_status (guest_of m).end) (run_small (guest_of m).end)
   where
-    said : (s : ℕ) → Contains (0 ∷ 1 ∷ []) s → DueIsSaid (record (ran_due m) { status = s })
+    said : (s : ℕ) → Contains (0 ∷ 1 ∷ 2 ∷ 3 ∷ 4 ∷ []) s → DueIsSaid (record (ran_due m) { status = s })
     said s (zero, lt, is) = record { statuses = (0, omega arith, is); stores = λ ne. refl; unmade = λ high. absurd (omega (arith, is)) }
     said s (suc zero, lt, is) = record { statuses = (1, omega arith, is); stores = λ ne. refl; unmade = λ high. absurd (omega (arith, is)) }
-    said s (suc (suc k), lt, is) = absurd (omega arith)
+    said s (suc (suc zero), lt, is) = record { statuses = (2, omega arith, is); stores = λ ne. refl; unmade = λ high. absurd (omega (arith, is)) }
+    said s (suc (suc (suc zero)), lt, is) = record { statuses = (3, omega arith, is); stores = λ ne. refl; unmade = λ high. absurd (omega (arith, is)) }
+    said s (suc (suc (suc (suc zero))), lt, is) = record { statuses = (4, omega arith, is); stores = λ ne. refl; unmade = λ high. absurd (omega (arith, is)) }
+    said s (suc (suc (suc (suc (suc k)))), lt, is) = absurd (omega arith)
 
-pub due_said : (command : Option Command) (seed : List ℕ) (loads : List FileAnswer) (due : Due) → comes_to (row_of command seed) loads ≡ Some due → HasExited due.machine → DueIsSaid due
+pub due_said : (command : Option Command) (seed : List ℕ) (loads : List FileAnswer) (due : Due) → comes_to (row_of command seed) loads ≡ Some due → DueIsSaid due
 due_said command seed loads due is =
-    each Said (λ name exited. line_said 11 _ (3, omega arith, refl)) (λ name limit exited. line_said 11 _ (3, omega arith, refl)) (row_of command seed)
-    (of_row Said (λ line exited. line_said 12 line (4, omega arith, refl))
-    (λ t exited. record { statuses = (0, omega arith, refl); stores = λ ne. refl; unmade = λ high. absurd (omega arith) })
-    (λ name bytes exited. record { statuses = (0, omega arith, refl); stores = λ ne. absurd (ne refl); unmade = λ high. absurd (omega arith) })
-    ran_said (λ exited. line_said 10 _ (2, omega arith, refl)) command seed) loads due is
+    each DueIsSaid (λ name. line_said 11 _ (6, omega arith, refl)) (λ name limit. line_said 11 _ (6, omega arith, refl)) (row_of command seed)
+    (of_row DueIsSaid (λ line. line_said 12 line (7, omega arith, refl))
+    (λ t. record { statuses = (0, omega arith, refl); stores = λ ne. refl; unmade = λ high. absurd (omega arith) })
+    (λ name bytes. record { statuses = (0, omega arith, refl); stores = λ ne. absurd (ne refl); unmade = λ high. absurd (omega arith) })
+    ran_said (line_said 10 _ (5, omega arith, refl)) command seed) loads due is
 
 run_low : (end : Option End) → run_status end ≡ 10 → ⊥
 run_low None e = absurd (omega (arith, e))
@@ -115,10 +104,13 @@ not_usage command seed loads due is =
 pub low : (due : Due) → DueIsSaid due → due.status ≤ 12
 low due said = by due.status said.statuses
   where
-    by : (s : ℕ) → Contains (0 ∷ 1 ∷ 10 ∷ 11 ∷ 12 ∷ []) s → s ≤ 12
+    by : (s : ℕ) → Contains (0 ∷ 1 ∷ 2 ∷ 3 ∷ 4 ∷ 10 ∷ 11 ∷ 12 ∷ []) s → s ≤ 12
     by s (zero, lt, is) = omega (arith, is)
     by s (suc zero, lt, is) = omega (arith, is)
     by s (suc (suc zero), lt, is) = omega (arith, is)
     by s (suc (suc (suc zero)), lt, is) = omega (arith, is)
     by s (suc (suc (suc (suc zero))), lt, is) = omega (arith, is)
-    by s (suc (suc (suc (suc (suc k)))), lt, is) = absurd (omega arith)
+    by s (suc (suc (suc (suc (suc zero)))), lt, is) = omega (arith, is)
+    by s (suc (suc (suc (suc (suc (suc zero))))), lt, is) = omega (arith, is)
+    by s (suc (suc (suc (suc (suc (suc (suc zero)))))), lt, is) = omega (arith, is)
+    by s (suc (suc (suc (suc (suc (suc (suc (suc k))))))), lt, is) = absurd (omega arith)

@@ -3,10 +3,10 @@ ghost use Rattle.std.specs.Prelude.{◌≡◌, ◌≤◌, IfOk, length};
 ghost use Rattle.rv_asm.specs.Object.{object_of};
 ghost use Rattle.rv_asm.specs.Passes.{fault_of};
 ghost use Rattle.elf_write.specs.Written.{elf_file};
-ghost use Rattle.shuf_cli.specs.Dues.{store_due};
-ghost use Rattle.shuf_cli.specs.Limits.{file_limit};
-ghost use Rattle.shuf_cli.specs.Rows.{asm_due};
-ghost use Rattle.shuf_cli.specs.Written.{Writes};
+ghost use Rattle.cli_rows.specs.Dues.{store_due};
+ghost use Rattle.cli_rows.specs.Limits.{file_limit};
+ghost use Rattle.cli_rows.specs.Rows.{asm_due};
+ghost use Rattle.cli_rows.specs.Written.{Writes};
 
 use crate::lines::faulty;
 use crate::{Due, FileStore};
@@ -41,7 +41,8 @@ fn stored(alloc: Global, target: &str, bytes: Bytes) -> Result<Due, NoMemory>
     })
 }
 
-/// What is due for an assembly of the source.
+/// What is due for an assembly of the source: the store of its executable under the target, or the line on a source that
+/// has a fault. Err only where memory is refused.
 pub fn of_asm(alloc: Global, target: &str, source: &[u8]) -> Result<Due, NoMemory>
     requires { length source.now ≤ file_limit }
     ensures { IfOk result (λ due. due ≡ asm_due target.now source.now) }

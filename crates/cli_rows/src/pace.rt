@@ -2,8 +2,8 @@
 ghost use Rattle.std.specs.Prelude.{List, ℕ, ◌≤◌};
 ghost use Rattle.sh_machines.specs.Pace.{IsPaced, pace_after};
 ghost use Rattle.sh_types.specs.declared.code.Image.{Image};
-ghost use Rattle.shuf_cli.specs.Limits.{default_period, default_steps};
-ghost use Rattle.shuf_cli.specs.Run.{no_input, past_of};
+ghost use Rattle.cli_rows.specs.Limits.{default_period, default_steps};
+ghost use Rattle.cli_rows.specs.Run.{no_input, past_of};
 
 use pace_law::serial_lists_are_paced;
 

@@ -1,7 +1,7 @@
 -- What may be due: a line, nothing, or more.
 use Rattle.std.specs.Prelude.{ℕ, List, Some, None}
-use Rattle.shuf_cli.specs.declared.due.Due.{Due}
-use Rattle.shuf_cli.specs.Lines.{usage_line, unreadable_line, too_long_line}
+use Rattle.cli_rows.specs.declared.due.Due.{Due}
+use Rattle.cli_rows.specs.Lines.{usage_line, unreadable_line, too_long_line}
 
 -- a refusal: its line alone
 abbrev pub line_due : ℕ → List ℕ → Due

@@ -3,8 +3,8 @@ use Rattle.std.specs.Prelude.{ℕ, List, [], ◌∷◌, length, nat_lt, if◌the
 use Rattle.sh_base.specs.Held.{FileMap, Loads}
 use Rattle.sh_base.specs.Told.{FileAnswer}
 use Rattle.elf_rules.specs.declared.refusals.LoadFault.{LoadFault}
-use Rattle.elf_rules.specs.Accepted.{mapped_by, refusal_of}
-use Rattle.image_rules.specs.Bound.{bound_image}
+use Rattle.elf_rules.specs.Bindable.{mapped_by}
+use Rattle.image_rules.specs.Framed.{framed_image, refusal_of}
 use Rattle.elf_rules.specs.Elf.{segments_of}
 use Rattle.asm_text.specs.declared.faults.LineFault.{LineFault}
 use Rattle.rv_asm.specs.Object.{object_of}
@@ -12,13 +12,13 @@ use Rattle.rv_asm.specs.Passes.{fault_of}
 use Rattle.elf_write.specs.Written.{elf_file}
 use Rattle.image_text.specs.Lines.{fault_line, source_line}
 use Rattle.image_text.specs.Listing.{listing_of}
-use Rattle.shuf_cli.specs.declared.words.Command.{Command}
-use Rattle.shuf_cli.specs.declared.words.Command.TheVariants.{Run, Check, Asm}
-use Rattle.shuf_cli.specs.declared.due.Due.{Due}
-use Rattle.shuf_cli.specs.Dues.{line_due, text_due, store_due, usage_due, unreadable_due, too_long_due}
-use Rattle.shuf_cli.specs.Limits.{file_limit}
-use Rattle.shuf_cli.specs.Run.{accepted_due}
-use Rattle.shuf_cli.specs.Words.{same}
+use Rattle.cli_rows.specs.declared.words.Command.{Command}
+use Rattle.cli_rows.specs.declared.words.Command.TheVariants.{Run, Check, Asm}
+use Rattle.cli_rows.specs.declared.due.Due.{Due}
+use Rattle.cli_rows.specs.Dues.{line_due, text_due, store_due, usage_due, unreadable_due, too_long_due}
+use Rattle.cli_rows.specs.Limits.{file_limit}
+use Rattle.cli_rows.specs.Run.{accepted_due}
+use Rattle.cli_rows.specs.Words.{same}
 
 -- a command loads a file of at most so many bytes and goes on by them, or comes to what is due
 pub data Row : Type 0 where
@@ -41,7 +41,7 @@ run_due file seed = unless_refused (refusal_of file) (accepted_due file seed)
 
 -- the text that lists the file's image
 abbrev pub check_due : List ℕ → Due
-check_due file = unless_refused (refusal_of file) (text_due (listing_of (bound_image file) (mapped_by (segments_of file))))
+check_due file = unless_refused (refusal_of file) (text_due (listing_of (framed_image file) (mapped_by (segments_of file))))
 
 -- the file of the source's object, stored under the target
 abbrev pub asm_due : (target source : List ℕ) → Due

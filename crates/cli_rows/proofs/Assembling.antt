@@ -6,7 +6,7 @@ use Rattle.sh_types.specs.declared.objects.Object.{Object}
 use Rattle.rv_asm.specs.Object.{object_of, Assembles}
 use Rattle.rv_asm.specs.Passes.{fault_of}
 use Rattle.elf_write.specs.Writable.{IsWritable}
-use Rattle.shuf_cli.specs.Limits.{file_limit}
+use Rattle.cli_rows.specs.Limits.{file_limit}
 
 -- an object is answered only where there is no fault
 no_fault : (object all : Object) (found : Option LineFault) → Assembles (Ok object) found all → (found ≡ None) × (object ≡ all)

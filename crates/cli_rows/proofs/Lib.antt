@@ -1,0 +1,4 @@
+mod Assembling
+pub mod Dues
+mod Each
+pub mod Sizes
