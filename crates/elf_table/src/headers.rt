@@ -1,7 +1,7 @@
 //! The rules on the header and the program headers.
-use crate::cases::{by, expect_all};
-use crate::patches::{FIRST_PROGRAM, HUGE, Patch, SECOND_PROGRAM, first_file, refusal};
-use elf_rules::{ElfRule, LimitKind, LoadFault};
+use crate::cases::{Want, expect, expect_all};
+use crate::patches::{FIRST_PROGRAM, HUGE, Patch, SECOND_PROGRAM, first_file};
+use elf_rules::{ElfRule, LimitKind};
 use std::test::Fail;
 
 #[test]
@@ -15,12 +15,12 @@ fn short_files(rt: HostRuntime) -> Result<(), Fail> {
     ] {
         let mut file = Vec::from_slice(rt.alloc(), &whole)?;
         file.truncate(size);
-        assert_eq!(&rt; refusal(&rt, rt.alloc(), &file), by(want));
+        expect(&rt, rt.alloc(), &file, Want::Elf(want));
     }
     let mut zeros = Vec::new(rt.alloc());
     zeros.resize(64, 0)?;
-    assert_eq!(&rt; refusal(&rt, rt.alloc(), &zeros), by(ElfRule::Magic));
-    assert_eq!(&rt; refusal(&rt, rt.alloc(), &whole), None);
+    expect(&rt, rt.alloc(), &zeros, Want::Elf(ElfRule::Magic));
+    expect(&rt, rt.alloc(), &whole, Want::Accepted);
     Ok(())
 }
 
@@ -41,9 +41,9 @@ fn header_rules(rt: HostRuntime) -> Result<(), Fail> {
         ((48, 4, 8), ElfRule::Flags),
     ];
     for (patch, rule) in cases {
-        expect_all(&rt, rt.alloc(), &[(&[patch], by(rule))])?;
+        expect_all(&rt, rt.alloc(), &[(&[patch], Want::Elf(rule))])?;
     }
-    expect_all(&rt, rt.alloc(), &[(&[(48, 4, 0x10)], None)])
+    expect_all(&rt, rt.alloc(), &[(&[(48, 4, 0x10)], Want::Accepted)])
 }
 
 #[test]
@@ -61,7 +61,7 @@ fn tables(rt: HostRuntime) -> Result<(), Fail> {
         (40, 8, 0x2099),
     ];
     for patch in patches {
-        expect_all(&rt, rt.alloc(), &[(&[patch], by(ElfRule::Tables))])?;
+        expect_all(&rt, rt.alloc(), &[(&[patch], Want::Elf(ElfRule::Tables))])?;
     }
     Ok(())
 }
@@ -69,20 +69,15 @@ fn tables(rt: HostRuntime) -> Result<(), Fail> {
 /// p_type 0, p_offset 8, p_vaddr 16, p_filesz 32, p_memsz 40.
 #[test]
 fn segments(rt: HostRuntime) -> Result<(), Fail> {
-    let bad = by(ElfRule::Segment);
-    let mapped = |value| {
-        Some(LoadFault::Limit {
-            kind: LimitKind::Mapped,
-            value,
-        })
-    };
+    let bad = Want::Elf(ElfRule::Segment);
+    let mapped = |value| Want::Limit(LimitKind::Mapped, value);
     expect_all(
         &rt,
         rt.alloc(),
         &[
-            (&[(SECOND_PROGRAM, 4, 2)], by(ElfRule::Dynamic)),
-            (&[(SECOND_PROGRAM, 4, 3)], by(ElfRule::Dynamic)),
-            (&[(SECOND_PROGRAM, 4, 4)], None),
+            (&[(SECOND_PROGRAM, 4, 2)], Want::Elf(ElfRule::Dynamic)),
+            (&[(SECOND_PROGRAM, 4, 3)], Want::Elf(ElfRule::Dynamic)),
+            (&[(SECOND_PROGRAM, 4, 4)], Want::Accepted),
             (&[(FIRST_PROGRAM + 40, 8, 67)], bad),
             (&[(FIRST_PROGRAM + 8, 8, HUGE)], bad),
             (&[(FIRST_PROGRAM + 40, 8, HUGE)], bad),
@@ -90,9 +85,9 @@ fn segments(rt: HostRuntime) -> Result<(), Fail> {
             (&[(FIRST_PROGRAM + 40, 8, 0x3eff_0001)], bad),
             (&[(FIRST_PROGRAM + 40, 8, 0x3eff_0000)], mapped(0x3eff_0000)),
             (&[(FIRST_PROGRAM + 40, 8, 67_108_865)], mapped(67_108_865)),
-            (&[(SECOND_PROGRAM + 16, 8, 0x3f00_0000)], None),
+            (&[(SECOND_PROGRAM + 16, 8, 0x3f00_0000)], Want::Accepted),
             (&[(SECOND_PROGRAM + 16, 8, 0x3f00_0001)], bad),
-            (&[(SECOND_PROGRAM + 16, 8, 0)], None),
+            (&[(SECOND_PROGRAM + 16, 8, 0)], Want::Accepted),
             (
                 &[
                     (SECOND_PROGRAM + 16, 8, 0x1_0043),
@@ -105,7 +100,7 @@ fn segments(rt: HostRuntime) -> Result<(), Fail> {
                     (SECOND_PROGRAM + 16, 8, 0x1_0044),
                     (SECOND_PROGRAM + 40, 8, 4),
                 ],
-                None,
+                Want::Accepted,
             ),
         ],
     )

@@ -1,5 +1,5 @@
-//! Tests of the loader over whole files: for each rule a file that fails it and passes all before it, and what is loaded
-//! of files that are accepted.
+//! Tests of the loader over whole files: for each rule a file that fails it and passes all before it, and what is bound
+//! and loaded of other files.
 #![tactic(auto)]
 
 #[cfg(test)]

@@ -1,9 +1,8 @@
-//! The first guest's file, with numbers changed, and what the loader answers of it.
+//! The first guest's file, with numbers changed, and why it cannot be bound.
 use elf_rules::LoadFault;
-use guest_image::load_image;
+use image_binding::bind_file;
 use sample_files::{HOME, Sample, file_of};
 use std::alloc::{AllocError, Global};
-use std::thread::Threads;
 
 /// A number of so many bytes at a place of the file.
 pub type Patch = (usize, usize, u64);
@@ -79,9 +78,9 @@ pub fn patch_all(file: &mut [u8], patches: &[Patch]) {
     }
 }
 
-/// Why the loader refuses the file.
-pub fn refusal<R: Threads + Sync>(rt: &R, alloc: Global, file: &[u8]) -> Option<LoadFault> {
-    match load_image(rt, alloc, file) {
+/// Why the file is refused before its frames are looked at.
+pub fn refusal(alloc: Global, file: &[u8]) -> Option<LoadFault> {
+    match bind_file(alloc, file) {
         Ok(_) => None,
         Err(fault) => Some(fault),
     }

@@ -1,12 +1,12 @@
 //! The rules on executable sections: sh_type 4, sh_flags 8, sh_addr 16, sh_offset 24, sh_size 32.
-use crate::cases::{by, expect_all};
+use crate::cases::{Want, expect_all};
 use crate::patches::{HUGE, section};
 use elf_rules::ElfRule;
 use std::test::Fail;
 
 #[test]
 fn one_section(rt: HostRuntime) -> Result<(), Fail> {
-    let bad = by(ElfRule::Code);
+    let bad = Want::Elf(ElfRule::Code);
     expect_all(
         &rt,
         rt.alloc(),
@@ -18,9 +18,9 @@ fn one_section(rt: HostRuntime) -> Result<(), Fail> {
             (&[(section(1, 32), 8, HUGE - 3)], bad),
             (&[(section(1, 24), 8, 0x1004)], bad),
             (&[(section(1, 16), 8, 0x2_0000)], bad),
-            (&[(section(1, 8), 8, 4)], by(ElfRule::Start)),
-            (&[(section(1, 8), 8, 2)], by(ElfRule::Start)),
-            (&[(section(1, 32), 8, 0)], by(ElfRule::Start)),
+            (&[(section(1, 8), 8, 4)], Want::Elf(ElfRule::Start)),
+            (&[(section(1, 8), 8, 2)], Want::Elf(ElfRule::Start)),
+            (&[(section(1, 32), 8, 0)], Want::Elf(ElfRule::Start)),
         ],
     )
 }
@@ -28,7 +28,7 @@ fn one_section(rt: HostRuntime) -> Result<(), Fail> {
 /// Sections that share bytes, also where they are no neighbours in the table.
 #[test]
 fn sections_that_share(rt: HostRuntime) -> Result<(), Fail> {
-    let bad = by(ElfRule::Code);
+    let bad = Want::Elf(ElfRule::Code);
     let second = |start: u64| {
         [
             (section(2, 8), 8, 6),

@@ -1,5 +1,5 @@
 //! The rules on the symbol table, the entry and the names.
-use crate::cases::{by, expect_all};
+use crate::cases::{Want, expect_all};
 use crate::patches::{HUGE, START_SYMBOL, STRINGS_END, section};
 use elf_rules::ElfRule;
 use std::test::Fail;
@@ -7,7 +7,7 @@ use std::test::Fail;
 /// sh_type 4, sh_offset 24, sh_size 32, sh_link 40, sh_entsize 56.
 #[test]
 fn symbol_tables(rt: HostRuntime) -> Result<(), Fail> {
-    let bad = by(ElfRule::Symbols);
+    let bad = Want::Elf(ElfRule::Symbols);
     expect_all(
         &rt,
         rt.alloc(),
@@ -28,7 +28,7 @@ fn symbol_tables(rt: HostRuntime) -> Result<(), Fail> {
 
 #[test]
 fn entries(rt: HostRuntime) -> Result<(), Fail> {
-    let bad = by(ElfRule::Start);
+    let bad = Want::Elf(ElfRule::Start);
     expect_all(
         &rt,
         rt.alloc(),
@@ -45,14 +45,14 @@ fn entries(rt: HostRuntime) -> Result<(), Fail> {
 /// st_name 0, st_shndx 6; sh_name 0. Names of the null symbol and the null section count.
 #[test]
 fn names(rt: HostRuntime) -> Result<(), Fail> {
-    let bad = by(ElfRule::NameAt);
+    let bad = Want::Elf(ElfRule::NameAt);
     expect_all(
         &rt,
         rt.alloc(),
         &[
             (&[(START_SYMBOL, 4, 13)], bad),
             (&[(START_SYMBOL, 4, 0xffff_ffff)], bad),
-            (&[(START_SYMBOL, 4, 12)], None),
+            (&[(START_SYMBOL, 4, 12)], Want::Accepted),
             (&[(STRINGS_END - 1, 1, 0x78)], bad),
             (&[(section(6, 32), 8, 0)], bad),
             (&[(section(1, 0), 4, 61)], bad),
@@ -64,16 +64,16 @@ fn names(rt: HostRuntime) -> Result<(), Fail> {
 
 #[test]
 fn sections_of_symbols(rt: HostRuntime) -> Result<(), Fail> {
-    let bad = by(ElfRule::SectionAt);
+    let bad = Want::Elf(ElfRule::SectionAt);
     expect_all(
         &rt,
         rt.alloc(),
         &[
             (&[(START_SYMBOL + 6, 2, 8)], bad),
             (&[(START_SYMBOL + 6, 2, 0xfeff)], bad),
-            (&[(START_SYMBOL + 6, 2, 0xff00)], None),
-            (&[(START_SYMBOL + 6, 2, 0xfff1)], None),
-            (&[(START_SYMBOL + 6, 2, 7)], None),
+            (&[(START_SYMBOL + 6, 2, 0xff00)], Want::Accepted),
+            (&[(START_SYMBOL + 6, 2, 0xfff1)], Want::Accepted),
+            (&[(START_SYMBOL + 6, 2, 7)], Want::Accepted),
         ],
     )
 }

@@ -1,7 +1,8 @@
 //! What the tests call of the library, over the first guest's file and under the seed of zeros.
-ghost use Rattle.std.specs.Prelude.{◌≡◌, Some, IfOk, IfSome};
-ghost use Rattle.sh_machines.specs.Runnable.{IsRunnable};
-ghost use Rattle.image_rules.specs.Thin.{thin_image};
+ghost use Rattle.sh_types.specs.Image.{sizes_of};
+ghost use Rattle.sh_types.specs.Sized.{IsSized};
+ghost use Rattle.sh_machines.specs.Copy.{IsCopyable};
+ghost use Rattle.sh_machines.specs.Fine.{IsFine};
 
 use elf_rules::LoadFault;
 use elf_table::patches::first_file;
@@ -12,37 +13,18 @@ use shuf_cli::{Done, serial_command};
 use shuf_machine::{Machine, MachineNo, Origin};
 use std::alloc::{AllocError, Global};
 use std::thread::Threads;
-use thin_image::classify;
-use thin_law::thin_images_are_fine;
-
-/// The image of the file with these bytes; None where the file is refused or is not thin.
-#[tactic(auto, unfolding(image_rules::specs::Thin::thin_image))]
-fn read_thin<R: Threads + Sync>(
-    rt: &R,
-    alloc: Global,
-    bytes: &[u8],
-) -> Result<Option<Image>, NoMemory>
-    ensures is { IfOk result (λ found. found ≡ thin_image bytes.now) }
-    ensures runnable { IfOk result (λ found. IfSome found IsRunnable) }
-{
-    match load_image(rt, alloc, bytes) {
-        Ok(image) => classify(alloc, image),
-        Err(LoadFault::NoMemory) => Err(NoMemory),
-        Err(_) => Ok(None),
-    }
-}
 
 /// A new machine of the file.
 fn machine_of(alloc: Global, image: Image, file: Bytes) -> Result<Machine, NoMemory>
-    requires thin { thin_image file ≡ Some image }
-    requires runnable { IsRunnable image }
+    requires fine { IsFine image }
+    requires sized { IsSized (sizes_of image) }
+    requires copyable { IsCopyable image }
 {
     let origin = Origin {
         file,
         input: Bytes::new(alloc),
         seed: [0; 32],
     };
-    thin_images_are_fine();
     Machine::new(alloc, image, origin)
 }
 
@@ -54,7 +36,7 @@ fn run_new(machine: &mut Machine, hart: u32, log: &mut FetchLog) -> Result<u64, 
     machine.run_direct(hart, 100, log)
 }
 
-/// The same of the first guest's machine; 0 where its file is not thin.
+/// The same of the first guest's machine; 0 where its file is refused.
 pub fn run_first<R: Threads + Sync>(
     rt: &R,
     alloc: Global,
@@ -65,13 +47,13 @@ pub fn run_first<R: Threads + Sync>(
         return Err(MachineNo::NoMemory);
     };
     let file = Bytes::from_vec(bytes);
-    match read_thin(rt, alloc, file.as_slice()) {
-        Ok(Some(image)) => match machine_of(alloc, image, file) {
+    match load_image(rt, alloc, file.as_slice()) {
+        Ok(image) => match machine_of(alloc, image, file) {
             Ok(mut machine) => run_new(&mut machine, hart, log),
             Err(NoMemory) => Err(MachineNo::NoMemory),
         },
-        Ok(None) => Ok(0),
-        Err(NoMemory) => Err(MachineNo::NoMemory),
+        Err(LoadFault::NoMemory) => Err(MachineNo::NoMemory),
+        Err(_) => Ok(0),
     }
 }
 

@@ -1,18 +1,16 @@
 //! The copy of the first guest under the seed of zeros. Its words are from an independent program.
-ghost use Rattle.std.specs.Prelude.{◌≡◌, Some, IfOk, IfSome};
+ghost use Rattle.std.specs.Prelude.{◌≡◌, IfOk};
 ghost use Rattle.sh_types.specs.Image.{sizes_of};
-ghost use Rattle.sh_machines.specs.Runnable.{IsRunnable};
-ghost use Rattle.image_rules.specs.Thin.{thin_image};
+ghost use Rattle.sh_types.specs.Sized.{IsSized};
+ghost use Rattle.sh_machines.specs.Copy.{IsCopyable};
 
 use code_copier::copy;
 use elf_rules::LoadFault;
 use guest_image::load_image;
-use layout_maker::{layouts_are_well_placed, make_layout, recent_cells_are_counted};
+use layout_maker::{make_layout, recent_cells_are_counted};
 use sh_types::{CodeCopy, Image, NoMemory};
 use std::alloc::{AllocError, Global};
 use std::thread::Threads;
-use thin_image::classify;
-use thin_law::thin_images_are_fine;
 
 #[tactic(auto, unfolding(sh_types::specs::Image::sizes_of))]
 fn sizes(alloc: Global, image: &Image) -> Result<Vec<u32>, AllocError>
@@ -26,45 +24,27 @@ fn sizes(alloc: Global, image: &Image) -> Result<Vec<u32>, AllocError>
         .collect(alloc)
 }
 
-/// The copy of the first layout of the file's image.
-pub fn first_copy(alloc: Global, _file: &[u8], image: &Image) -> Result<CodeCopy, NoMemory>
-    requires thin { thin_image _file.now ≡ Some image.now }
-    requires runnable { IsRunnable image.now }
+/// The copy of the first layout of the image.
+fn first_copy(alloc: Global, image: &Image) -> Result<CodeCopy, NoMemory>
+    requires sized { IsSized (sizes_of image.now) }
+    requires copyable { IsCopyable image.now }
 {
-    thin_images_are_fine();
-    layouts_are_well_placed();
     recent_cells_are_counted();
     let sizes = sizes(alloc, image)?;
     let layout = make_layout(alloc, &sizes, &[0; 32], 1, &[])?;
     copy(alloc, image, &layout)
 }
 
-/// The image of the file with these bytes; None where the file is refused or is not thin.
-#[tactic(auto, unfolding(image_rules::specs::Thin::thin_image))]
-fn read_thin<R: Threads + Sync>(
-    rt: &R,
-    alloc: Global,
-    bytes: &[u8],
-) -> Result<Option<Image>, NoMemory>
-    ensures is { IfOk result (λ found. found ≡ thin_image bytes.now) }
-    ensures runnable { IfOk result (λ found. IfSome found IsRunnable) }
-{
-    match load_image(rt, alloc, bytes) {
-        Ok(image) => classify(alloc, image),
-        Err(LoadFault::NoMemory) => Err(NoMemory),
-        Err(_) => Ok(None),
-    }
-}
-
-/// The same of a file; None where it is not thin.
+/// The same of a file; None where it is refused.
 pub fn copy_of_file<R: Threads + Sync>(
     rt: &R,
     alloc: Global,
     file: &[u8],
 ) -> Result<Option<CodeCopy>, NoMemory> {
-    match read_thin(rt, alloc, file)? {
-        Some(image) => Ok(Some(first_copy(alloc, file, &image)?)),
-        None => Ok(None),
+    match load_image(rt, alloc, file) {
+        Ok(image) => Ok(Some(first_copy(alloc, &image)?)),
+        Err(LoadFault::NoMemory) => Err(NoMemory),
+        Err(_) => Ok(None),
     }
 }
 
@@ -84,7 +64,7 @@ mod tests {
     fn the_first_copy(rt: HostRuntime) -> Result<(), Fail> {
         let file = first_file(rt.alloc())?;
         let found = copy_of_file(&rt, rt.alloc(), &file)?;
-        let mut copy = found.expect(&rt, "the file is thin");
+        let mut copy = found.expect(&rt, "the file is accepted");
         assert_eq!(rt; copy.start, 0x4760_0000);
         assert_eq!(rt; copy.words.len(), 262_144);
         assert_eq!(rt; word_in(&copy, 0x476b_ead0), Some(0x9a58_70ef), "the call");

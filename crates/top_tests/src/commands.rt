@@ -101,11 +101,11 @@ fn long_files(rt: HostRuntime) -> Result<(), Fail> {
 
 /// The list of the first guest's file.
 const LIST: &str = "accepted functions 2 rows 0 code 68 mapped 68 entry f0
-f0 0x10000 size 60 start
-f1 0x1003c size 8 three
+f0 0x10000 size 60 depth 16 start
+f1 0x1003c size 8 depth 0 three
 ";
 
-/// A check runs nothing, so a guest that is not run is listed too: the second has no exit.
+/// A check runs nothing, so a guest that falls off its end is listed like the first.
 #[test]
 fn lists(rt: HostRuntime) -> Result<(), Fail> {
     let table = [

@@ -1,6 +1,6 @@
 //! Runs of the first guest, which writes `hi` and a line feed, and of guests with another word in its place.
 use crate::calls::{Fails, Told, call_main, files_of};
-use crate::commands::{Want, expect, patched};
+use crate::commands::{expect, patched};
 use elf_table::patches::first_file;
 use sh_types::{End, Event};
 use std::process::Abort;
@@ -19,7 +19,7 @@ harts 1
 
 /// Where in the file the word is, the word, and what comes of it: the status, the output, and the last lines.
 #[test]
-fn guests_that_exit(rt: HostRuntime) -> Result<(), Fail> {
+fn guests_that_end(rt: HostRuntime) -> Result<(), Fail> {
     let table = [
         (
             (0x1030, 4, 0x0070_0513),
@@ -41,21 +41,24 @@ fn guests_that_exit(rt: HostRuntime) -> Result<(), Fail> {
             "",
             "instructions 14\nend exit 1\n",
         ),
+        // at once, by the call that ends all harts
+        (
+            (0x1028, 4, 0x05e0_0893),
+            1,
+            "",
+            "instructions 14\nend exit 1\n",
+        ),
+        // not at all
+        (
+            (0x1038, 4, 0x0000_0013),
+            2,
+            "hi\n",
+            "instructions 18\nend trap FellOff hart 0 f0+60 value 0x0\n",
+        ),
     ];
     for (one, status, out, last) in table {
         let report = format!(in rt.alloc(); "{HEAD_LINES}{last}")?;
         let want = (status, out, report.as_str());
-        let file = patched(rt.alloc(), one)?;
-        expect(&rt, rt.alloc(), &RUN, &file, Fails::Neither, want)?;
-    }
-    Ok(())
-}
-
-/// A call with another number, and no exit.
-#[test]
-fn guests_that_are_not_run(rt: HostRuntime) -> Result<(), Fail> {
-    let want: Want = (12, "", "shuffler: refused: not built\n");
-    for one in [(0x1028, 4, 0x05e0_0893), (0x1038, 4, 0x0000_0013)] {
         let file = patched(rt.alloc(), one)?;
         expect(&rt, rt.alloc(), &RUN, &file, Fails::Neither, want)?;
     }

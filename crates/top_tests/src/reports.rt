@@ -31,7 +31,7 @@ fn the_ends(rt: HostRuntime) -> Result<(), Fail> {
         };
         let file = file_of(rt.alloc(), &sample)?;
         let found = report_on(&rt, rt.alloc(), &file, limit)?;
-        let text = found.expect(&rt, "the file is thin");
+        let text = found.expect(&rt, "the file is accepted");
         assert!(rt; text.as_slice().ends_with(want.as_bytes()), "{want}");
     }
     Ok(())

@@ -1,7 +1,8 @@
 //! Machines that run a few instructions.
-ghost use Rattle.std.specs.Prelude.{◌≡◌, Some, IfOk, IfSome};
-ghost use Rattle.sh_machines.specs.Runnable.{IsRunnable};
-ghost use Rattle.image_rules.specs.Thin.{thin_image};
+ghost use Rattle.sh_types.specs.Image.{sizes_of};
+ghost use Rattle.sh_types.specs.Sized.{IsSized};
+ghost use Rattle.sh_machines.specs.Copy.{IsCopyable};
+ghost use Rattle.sh_machines.specs.Fine.{IsFine};
 
 use elf_rules::LoadFault;
 use guest_image::load_image;
@@ -10,32 +11,13 @@ use sh_types::{Bytes, CopyFetch, Image, NoMemory};
 use shuf_machine::{Machine, MachineNo, Origin};
 use std::alloc::Global;
 use std::thread::Threads;
-use thin_image::classify;
-use thin_law::thin_images_are_fine;
-
-/// The image of the file with these bytes; None where the file is refused or is not thin.
-#[tactic(auto, unfolding(image_rules::specs::Thin::thin_image))]
-fn read_thin<R: Threads + Sync>(
-    rt: &R,
-    alloc: Global,
-    bytes: &[u8],
-) -> Result<Option<Image>, NoMemory>
-    ensures is { IfOk result (λ found. found ≡ thin_image bytes.now) }
-    ensures runnable { IfOk result (λ found. IfSome found IsRunnable) }
-{
-    match load_image(rt, alloc, bytes) {
-        Ok(image) => classify(alloc, image),
-        Err(LoadFault::NoMemory) => Err(NoMemory),
-        Err(_) => Ok(None),
-    }
-}
 
 /// A machine of the image under the seed of zeros.
 fn machine_of(alloc: Global, file: Bytes, image: Image) -> Result<Machine, NoMemory>
-    requires thin { thin_image file ≡ Some image }
-    requires runnable { IsRunnable image }
+    requires fine { IsFine image }
+    requires sized { IsSized (sizes_of image) }
+    requires copyable { IsCopyable image }
 {
-    thin_images_are_fine();
     let origin = Origin {
         file,
         input: Bytes::new(alloc),
@@ -56,7 +38,7 @@ fn report_after(alloc: Global, machine: Machine, limit: u64) -> Result<Bytes, No
     }
 }
 
-/// The same of the machine of a file; None where the file is not thin.
+/// The same of the machine of a file; None where the file is refused.
 pub fn report_on<R: Threads + Sync>(
     rt: &R,
     alloc: Global,
@@ -64,11 +46,12 @@ pub fn report_on<R: Threads + Sync>(
     limit: u64,
 ) -> Result<Option<Bytes>, NoMemory> {
     let file = Bytes::from_slice(alloc, file)?;
-    match read_thin(rt, alloc, file.as_slice())? {
-        Some(image) => {
+    match load_image(rt, alloc, file.as_slice()) {
+        Ok(image) => {
             let machine = machine_of(alloc, file, image)?;
             Ok(Some(report_after(alloc, machine, limit)?))
         }
-        None => Ok(None),
+        Err(LoadFault::NoMemory) => Err(NoMemory),
+        Err(_) => Ok(None),
     }
 }
