@@ -19,7 +19,7 @@ harts 1
 
 /// Where in the file the word is, the word, and what comes of it: the status, the output, and the last lines.
 #[test]
-fn guests_that_end(rt: HostRuntime) -> Result<(), Fail> {
+fn guests_that_exit(rt: HostRuntime) -> Result<(), Fail> {
     let table = [
         (
             (0x1030, 4, 0x0070_0513),
@@ -40,20 +40,6 @@ fn guests_that_end(rt: HostRuntime) -> Result<(), Fail> {
             1,
             "",
             "instructions 14\nend exit 1\n",
-        ),
-        // at once, by the call that ends all harts
-        (
-            (0x1028, 4, 0x05e0_0893),
-            1,
-            "",
-            "instructions 14\nend exit 1\n",
-        ),
-        // not at all
-        (
-            (0x1038, 4, 0x0000_0013),
-            2,
-            "hi\n",
-            "instructions 18\nend trap FellOff hart 0 f0+60 value 0x0\n",
         ),
     ];
     for (one, status, out, last) in table {
