@@ -1,4 +1,4 @@
-//! Runs of the first guest, which writes `hi` and a line feed, and of guests with another word in its place.
+//! Runs of the first guest, which writes `hi` and a line feed.
 use crate::calls::{Fails, Told, call_main, files_of};
 use crate::commands::{expect, patched};
 use elf_table::patches::first_file;
@@ -7,49 +7,6 @@ use std::process::Abort;
 use std::test::Fail;
 
 const RUN: [&str; 3] = ["run", "a.elf", "--serial"];
-
-/// The report under the seed of zeros, up to what the run came to.
-const HEAD_LINES: &str = "shuffler 1
-seed 0000000000000000000000000000000000000000000000000000000000000000
-period 100000
-image functions 2 rows 0 code 68
-layout 1 at 0 cell 118
-harts 1
-";
-
-/// Where in the file the word is, the word, and what comes of it: the status, the output, and the last lines.
-#[test]
-fn guests_that_exit(rt: HostRuntime) -> Result<(), Fail> {
-    let table = [
-        (
-            (0x1030, 4, 0x0070_0513),
-            1,
-            "hi\n",
-            "instructions 17\nend exit 7\n",
-        ),
-        // 256, of which the low byte counts
-        (
-            (0x1030, 4, 0x1000_0513),
-            0,
-            "hi\n",
-            "instructions 17\nend exit 0\n",
-        ),
-        // at once
-        (
-            (0x1028, 4, 0x05d0_0893),
-            1,
-            "",
-            "instructions 14\nend exit 1\n",
-        ),
-    ];
-    for (one, status, out, last) in table {
-        let report = format!(in rt.alloc(); "{HEAD_LINES}{last}")?;
-        let want = (status, out, report.as_str());
-        let file = patched(rt.alloc(), one)?;
-        expect(&rt, rt.alloc(), &RUN, &file, Fails::Neither, want)?;
-    }
-    Ok(())
-}
 
 /// A write is made also where the guest wrote nothing. Where the report fails the output is written.
 #[test]

@@ -1,4 +1,4 @@
-//! Tests of the top call over files and sinks in memory, and of the report on a run.
+//! Tests of the top call over files and sinks in memory.
 #![tactic(auto)]
 
 pub mod calls;
@@ -6,6 +6,3 @@ pub mod calls;
 mod commands;
 #[cfg(test)]
 mod guests;
-#[cfg(test)]
-mod reports;
-pub mod runs;
