@@ -1,3 +1,2 @@
 pub mod Did
 pub mod Fits
-pub mod Registers

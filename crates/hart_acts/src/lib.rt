@@ -14,4 +14,4 @@ pub use arithmetic::computes;
 pub use atomics::{exchanges, reserves, stores_if};
 pub use control::{branches, calls, calls_through, goes_back, jumps, jumps_through};
 pub use memory::{loads, restores, saves, stores};
-pub use registers::{advance, plus_imm, set};
+pub use registers::{advance, set};
