@@ -7,7 +7,7 @@ use Rattle.sh_machines.specs.Need.{Outcome}
 use Rattle.sh_machines.specs.Shuffled.{Setting, Owned, Shuffled, after, ended_hart, hart_ends}
 use Rattle.sh_law.specs.Length.{is_calls}
 use Rattle.hart_turns.specs.Next.{next_outcome, IsStopped}
-use Rattle.hart_turns.proofs.Losing.{get_set}
+use Rattle.hart_turns.proofs.Reservations.{get_set}
 use Rattle.hart_turns.proofs.Next.{calls_are, done_by}
 
 and_false : (a b : Bool) → b ≡ false → (a && b) ≡ false

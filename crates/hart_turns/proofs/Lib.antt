@@ -4,7 +4,7 @@ pub mod Copies
 pub mod Ending
 pub mod Keeping
 pub mod Legal
-pub mod Losing
 pub mod Next
 pub mod Reaching
+pub mod Reservations
 pub mod Steps

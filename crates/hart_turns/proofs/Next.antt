@@ -1,6 +1,6 @@
 -- What the code does for an instruction is what the machine does.
 use Rattle.std.proofs.Common.{◌≡◌, ℕ, ℤ, zero, suc, ◌/◌, true, false, Option, Some, None, List, [], ◌∷◌, refl, sym, ap, ◌∙◌, subst}
-use Rattle.std.specs.Prelude.{slice_get, slice_set, slice_index, slice_index_or, ◌==◌, ◌&&◌, if◌then◌else◌}
+use Rattle.std.specs.Prelude.{IfNone, slice_get, slice_set, slice_index, slice_index_or, ◌==◌, ◌&&◌, if◌then◌else◌}
 use Rattle.std.proofs.Math.Path.{fun_ext}
 use Rattle.sh_types.specs.declared.code.Image.{Image}
 use Rattle.sh_types.specs.declared.code.Pair.{Pair}
@@ -23,17 +23,19 @@ use Rattle.sh_machines.specs.Shuffled.{Setting, Owned, Shuffled, left, after, ha
 use Rattle.sh_machines.specs.StandsFor.{layout_number}
 use Rattle.sh_law.specs.Length.{is_calls, hart_calls, calls_in}
 use Rattle.hart_acts.specs.declared.answers.Did.{Did}
-use Rattle.hart_acts.specs.Did.{did_as, touched_by, did_of, hart_after}
+use Rattle.hart_acts.specs.declared.answers.Short.{Short}
+use Rattle.hart_acts.specs.Did.{did_as, touched_by, did_of, hart_after, whole_of}
 use Rattle.hart_acts.specs.Fits.{Fits}
 use Rattle.hart_step.specs.Task.{tables_with}
+use Rattle.hart_step.specs.Word.{IsShort}
 use Rattle.guest_mem.specs.Held.{Held, regions_of}
 use Rattle.hart_turns.specs.declared.state.LiveCode.{LiveCode}
 use Rattle.hart_turns.specs.declared.state.Prepared.{Prepared}
 use Rattle.hart_turns.specs.Meant.{IsLive, IsMade, IsMapped, setting_of}
-use Rattle.hart_turns.specs.Next.{outcome_at, next_outcome, Continues, OutContinues, IsHere, IsNext, IsBegun, IsStill, Begins}
+use Rattle.hart_turns.specs.Next.{outcome_at, next_outcome, Continues, OutContinues, IsHere, IsNext, IsBegun, IsStill, Begins, IsWordOf}
 use Rattle.hart_turns.specs.Ran.{asked_by}
 use Rattle.hart_turns.proofs.Copies.{guards_are_zero, number_of_layout}
-use Rattle.hart_turns.proofs.Losing.{get_lost, set_free, get_set}
+use Rattle.hart_turns.proofs.Reservations.{get_lost, set_free, get_set}
 
 -- ---- which addresses are mapped is all that an instruction asks of the regions
 
@@ -136,8 +138,7 @@ module _ (o : Setting) (n : ℕ) (s : Shuffled) (h : Hart) (e : slice_get s.hart
   begun_by h' m' t (Traps k v) ex con eh em = still_there (Traps k v) h' m' ex eh em
   begun_by h' m' t Leaks ex con eh em = still_there Leaks h' m' ex eh em
 
--- the answer of `step` on the hart, in place
-pub begun : (c : LiveCode) (p : Prepared) (l : Layout) (m : Held) (s : Shuffled) (n : ℕ) (h h' : Hart) (m' : ℕ → Owned) (t : Tables) (did : Did) → IsLive c → IsMapped c.image.now m → slice_get s.harts n ≡ Some h → IsHere c p n s h → can_run s n ≡ true → l ≡ p.layout → t ≡ tables_of c.image.now → did ≡ did_of (hart_needs t l (regions_of m) h (word_in p.copy h.pc)) s.words → h' ≡ hart_after (answered (hart_needs t l (regions_of m) h (word_in p.copy h.pc)) s.words) h → m' ≡ words_after (answered (hart_needs t l (regions_of m) h (word_in p.copy h.pc)) s.words) s.words → Begins (setting_of c) n did s (with_harts s (slice_set s.harts n h') m')
+begun : (c : LiveCode) (p : Prepared) (l : Layout) (m : Held) (s : Shuffled) (n : ℕ) (h h' : Hart) (m' : ℕ → Owned) (t : Tables) (did : Did) → IsLive c → IsMapped c.image.now m → slice_get s.harts n ≡ Some h → IsHere c p n s h → can_run s n ≡ true → l ≡ p.layout → t ≡ tables_of c.image.now → did ≡ did_of (hart_needs t l (regions_of m) h (word_in p.copy h.pc)) s.words → h' ≡ hart_after (answered (hart_needs t l (regions_of m) h (word_in p.copy h.pc)) s.words) h → m' ≡ words_after (answered (hart_needs t l (regions_of m) h (word_in p.copy h.pc)) s.words) s.words → Begins (setting_of c) n did s (with_harts s (slice_set s.harts n h') m')
 begun c p l m s n h h' m' t did ic im e here can el et ed eh em =
     let o = setting_of c in
     let need : Need Hart Owned = hart_needs t l (regions_of m) h (word_in p.copy h.pc) in
@@ -145,13 +146,29 @@ begun c p l m s n h h' m' t did ic im e here can el et ed eh em =
     subst (λ d. Begins o n d s (with_harts s (slice_set s.harts n h') m')) (sym ed)
     (begun_by o n s h e here.number can here.live h' m' (touched_by need) (answered need s.words) (same ∙ sym (next_is o n s h e)) (subst (OutContinues h) (sym same) here.goes_on) eh em)
 
+-- what the word of the hart comes to, in place
+pub begun_by_word : (c : LiveCode) (p : Prepared) (l : Layout) (m : Held) (s : Shuffled) (n : ℕ) (h h' : Hart) (m' : ℕ → Owned) (t : Tables) (w : ℕ) (did : Did) → IsLive c → IsMapped c.image.now m → slice_get s.harts n ≡ Some h → IsHere c p n s h → can_run s n ≡ true → l ≡ p.layout → t ≡ tables_of c.image.now → w ≡ word_in p.copy h.pc → did ≡ did_of (hart_does l (regions_of m) h (kind_there t l h.pc w)) s.words → h' ≡ hart_after (answered (hart_does l (regions_of m) h (kind_there t l h.pc w)) s.words) h → m' ≡ words_after (answered (hart_does l (regions_of m) h (kind_there t l h.pc w)) s.words) s.words → Begins (setting_of c) n did s (with_harts s (slice_set s.harts n h') m')
+unfolding hart_needs
+begun_by_word c p l m s n h h' m' t w did ic im e here can el et ew ed eh em =
+    begun c p l m s n h h' m' t did ic im e here can el et
+    (ed ∙ ap (λ x. did_of (hart_does l (regions_of m) h (kind_there t l h.pc x)) s.words) ew)
+    (eh ∙ ap (λ x. hart_after (answered (hart_does l (regions_of m) h (kind_there t l h.pc x)) s.words) h) ew)
+    (em ∙ ap (λ x. words_after (answered (hart_does l (regions_of m) h (kind_there t l h.pc x)) s.words) s.words) ew)
+
+-- the word that the code asked for is the hart's
+pub word_there : (copy : CodeCopy) (hs : List Hart) (n : ℕ) (h : Hart) (w : ℕ) → slice_get hs n ≡ Some h → IsWordOf copy (slice_get hs n) w → w ≡ word_in copy h.pc
+word_there copy hs n h w e i = subst (λ x. IsWordOf copy x w) e i
+
+pub is_word_of : (copy : CodeCopy) (hs : List Hart) (n : ℕ) (h : Hart) (w : ℕ) → slice_get hs n ≡ Some h → w ≡ word_in copy h.pc → IsWordOf copy (slice_get hs n) w
+is_word_of copy hs n h w e i = subst (λ x. IsWordOf copy x w) (sym e) i
+
 pub tables_are : (i : Image) (xs ys : List ℕ) (zs : List Pair) → xs ≡ i.literals → ys ≡ i.rows → zs ≡ i.labels → tables_with xs ys zs ≡ tables_of i
 tables_are i xs ys zs ex ey ez = ap (λ x. tables_with x ys zs) ex ∙ ap (λ y. tables_with i.literals y zs) ey ∙ ap (tables_with i.literals i.rows) ez
 
--- what `step` asks of its arguments, where the tables and the layout are equal to the code's
-pub meets_there : (c : LiveCode) (p : Prepared) (l : Layout) (s : Shuffled) (n : ℕ) (h : Hart) (t : Tables) → IsHere c p n s h → l ≡ p.layout → t ≡ tables_of c.image.now → (imm : ℤ) → kind_there t l h.pc (word_in p.copy h.pc) ≡ Restores imm → (s.words (plus_imm (slice_index h.regs 2) imm / 8)).owner ≡ Some h.number
-meets_there c p l s n h t here el et imm k =
-    here.meets imm (sym (ap (λ x. kind_there t x h.pc (word_in p.copy h.pc)) el ∙ ap (λ x. kind_there x p.layout h.pc (word_in p.copy h.pc)) et) ∙ k)
+-- what `long_step` asks of its arguments, where the tables and the layout are equal to the code's
+pub meets_there : (c : LiveCode) (p : Prepared) (l : Layout) (s : Shuffled) (n : ℕ) (h : Hart) (t : Tables) (w : ℕ) → IsHere c p n s h → l ≡ p.layout → t ≡ tables_of c.image.now → w ≡ word_in p.copy h.pc → (imm : ℤ) → kind_there t l h.pc w ≡ Restores imm → (s.words (plus_imm (slice_index h.regs 2) imm / 8)).owner ≡ Some h.number
+meets_there c p l s n h t w here el et ew imm k =
+    here.meets imm (sym (ap (λ x. kind_there t l h.pc x) ew ∙ ap (λ x. kind_there t x h.pc (word_in p.copy h.pc)) el ∙ ap (λ x. kind_there x p.layout h.pc (word_in p.copy h.pc)) et) ∙ k)
 
 pub fits_there : (c : LiveCode) (p : Prepared) (k : ℕ) (l : Layout) (rows : List ℕ) (labels : List Pair) → IsLive c → IsMade (setting_of c) k p → l ≡ p.layout → rows ≡ c.image.now.rows → labels ≡ c.image.now.labels → Fits rows labels l.sizes
 fits_there c p k l rows labels ic made el er eb =
@@ -160,6 +177,26 @@ fits_there c p k l rows labels ic made el er eb =
 
 pub guards_there : (c : LiveCode) (p : Prepared) (k : ℕ) (l : Layout) → IsLive c → IsMade (setting_of c) k p → l ≡ p.layout → (a : ℕ) → is_guard l a ≡ true → InCopy p.copy a → word_in p.copy a ≡ 0
 guards_there c p k l ic made el a g within = guards_are_zero c p k ic made a (subst (λ x. is_guard x a ≡ true) el g) within
+
+-- only where its word is 0 can the hart stand at a guard
+pub guard_there : (c : LiveCode) (p : Prepared) (l : Layout) (s : Shuffled) (n : ℕ) (h : Hart) (w : ℕ) → IsLive c → IsHere c p n s h → l ≡ p.layout → w ≡ word_in p.copy h.pc → is_guard l h.pc ≡ true → w ≡ 0
+guard_there c p l s n h w ic here el ew g = ew ∙ guards_there c p h.layout l ic here.made el h.pc g here.there
+
+-- a word that touches no memory, in place
+pub begun_short : (c : LiveCode) (p : Prepared) (m : Held) (s : Shuffled) (n : ℕ) (h h' : Hart) (w : ℕ) (short : Short) → IsLive c → IsMapped c.image.now m → slice_get s.harts n ≡ Some h → IsHere c p n s h → can_run s n ≡ true → w ≡ word_in p.copy h.pc → IsShort h w short h' → Begins (setting_of c) n (whole_of short) s (with_harts s (slice_set s.harts n h') s.words)
+begun_short c p m s n h h' w short ic im e here can ew is =
+    let t : Tables = tables_of c.image.now in
+    let guard = guard_there c p p.layout s n h w ic here refl ew in
+    begun_by_word c p p.layout m s n h h' s.words t w (whole_of short) ic im e here can refl refl ew
+    (is.did t p.layout (regions_of m) s.words guard) (is.hart t p.layout (regions_of m) s.words guard) (sym (is.words t p.layout (regions_of m) s.words guard))
+
+pub if_none_then : {A : Type 0} (o : Option A) {P Q : Type 0} → IfNone o P → (P → Q) → IfNone o Q
+if_none_then None p f = f p
+if_none_then (Some x) p f = tt
+
+-- the hart is as it was
+pub kept_there : (s : Shuffled) (n : ℕ) (h h' : Hart) → slice_get s.harts n ≡ Some h → h' ≡ h → with_harts s (slice_set s.harts n h') s.words ≡ s
+kept_there s n h h' e eh = ap (λ x. with_harts s (slice_set s.harts n x) s.words) eh ∙ ap (λ hs. with_harts s hs s.words) (set_same s.harts n h e)
 
 got_or : {A : Type 0} (xs : List A) (n : ℕ) (x d : A) → slice_get xs n ≡ Some x → slice_index_or xs n d ≡ x
 got_or [] n x d e = absurd (cc)

@@ -1,5 +1,6 @@
 -- The next instruction of a hart, and how the code does it. This project's own.
 use Rattle.std.specs.Prelude.{◌≡◌, ℕ, ℤ, ◌<◌, ◌≤◌, ◌/◌, ◌^◌, ◌&&◌, ◌||◌, ◌==◌, not, Bool, true, false, Option, Some, None, is_some, List, [], ◌∷◌, length, slice_get, slice_index}
+use Rattle.sh_types.specs.declared.layouts.CodeCopy.{CodeCopy}
 use Rattle.sh_types.specs.declared.runs.Event.{Event}
 use Rattle.sh_types.specs.declared.runs.Hart.{Hart}
 use Rattle.sh_types.specs.declared.runs.Stored.{Stored}
@@ -65,6 +66,11 @@ pub record IsNext (c : LiveCode) (p : Prepared) (s : Shuffled) (n : ℕ) : Type 
   pub hart : Hart
   pub is : slice_get s.harts n ≡ Some hart
   pub here : IsHere c p n s hart
+
+-- the word of the copy at the pc of the hart, where there is one
+abbrev pub IsWordOf : CodeCopy → Option Hart → ℕ → Type 0
+IsWordOf copy None word = Unit {0}
+IsWordOf copy (Some h) word = word ≡ word_in copy h.pc
 
 -- ---- how the code does it
 

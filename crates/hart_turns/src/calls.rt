@@ -14,7 +14,7 @@ ghost use Rattle.hart_turns.specs.Next.{IsReached, next_outcome};
 use crate::asking::{Answer, ask, unread};
 use crate::finishing::{end_hart, pair_at, stop};
 use crate::going::{current, laws, prepared_on};
-use crate::reservations::lose;
+use crate::losing::lose;
 use crate::state::{LiveCode, Prepared, State};
 use crate::transfers::fill;
 use sh_types::limits::MOST_HARTS;

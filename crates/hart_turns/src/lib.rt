@@ -5,7 +5,7 @@ mod asking;
 mod calls;
 mod finishing;
 mod going;
-mod reservations;
+mod losing;
 mod state;
 mod stepping;
 mod transfers;

@@ -1,5 +1,5 @@
 use Rattle.hart_turns.specs.Meant.{meant}
-use Rattle.hart_turns.proofs.Losing.{counted}
+use Rattle.hart_turns.proofs.Reservations.{counted}
 use Rattle.hart_turns.proofs.stepping.count.Goals as goal
 
 pub returns-else-watched-clause-meant : goal.returns-else-watched-clause-meant
