@@ -1,10 +1,12 @@
 //! A file becomes an image.
-ghost use Rattle.std.specs.Prelude.{◌≡◌, IfOk};
+ghost use Rattle.std.specs.Prelude.{All, ◌≡◌, ◌*◌, ◌<◌, ◌≤◌, ℕ, [], IfOk, length, slice_index, slice_index_or};
 ghost use Rattle.elf_rules.specs.Bindable.{IsBindable, Passes};
 ghost use Rattle.image_binding.specs.Binds.{IsBoundFile};
 ghost use Rattle.image_rules.specs.Framed.{framed_image, refusal_of};
+ghost use Rattle.load_law.specs.Readable.{IsFull};
 ghost use Rattle.sh_machines.specs.Copy.{IsCopyable};
 ghost use Rattle.sh_machines.specs.Fine.{IsFine};
+ghost use Rattle.sh_types.specs.declared.code.Region.{Region};
 ghost use Rattle.sh_types.specs.Image.{sizes_of};
 ghost use Rattle.sh_types.specs.Sized.{IsSized};
 ghost use Rattle.guest_image.specs.Literals.{IsFramable, IsFramedFile};
@@ -14,7 +16,9 @@ use crate::literals::all_literals;
 use bound_law::bound_images_are_coded;
 use elf_rules::LoadFault;
 use image_binding::{BoundFile, bind_file};
-use loaded_law::{bodies_can_be_walked, framed_images_are_copied, framed_images_are_fine};
+use loaded_law::{
+    bodies_can_be_walked, framed_images_are_copied, framed_images_are_fine, framed_images_are_whole,
+};
 use sh_types::{FrameTable, Image, Items};
 use std::alloc::Global;
 use std::thread::Threads;
@@ -53,7 +57,7 @@ fn framed_file<R: Threads + Sync>(
 
 /// The image of the executable with these bytes: its functions by rising addresses, their words, the classes of these and
 /// the rows of frames, the number of the function at the entry, and the readable bytes outside of code with the first stack
-/// behind them. By the relocation records, words and bytes have tokens in place of addresses of code; the rows are the
+/// behind them, which rise, share no byte and have a byte for each address. By the relocation records, words and bytes have tokens in place of addresses of code; the rows are the
 /// functions whose address a record takes as data, and the labels the places inside functions that a record in data names.
 /// The literals are the numbers that the reached AUIPC words give, in the order of the functions. The laws of the machines
 /// hold of the image, and its copies can be made.
@@ -73,7 +77,11 @@ pub fn load_image<R: Threads + Sync>(
     ensures fine { IfOk result IsFine }
     ensures sized { IfOk result (λ image. IsSized (sizes_of image)) }
     ensures copyable { IfOk result IsCopyable }
+    ensures words { IfOk result (λ image. (f : ℕ) → 4 * length (slice_index_or image.words f []) ≡ slice_index (sizes_of image) f) }
+    ensures apart { IfOk result (λ image. (j k : ℕ) (d : Region) → j < k → k < length image.regions → (slice_index_or image.regions j d).end ≤ (slice_index_or image.regions k d).start) }
+    ensures full { IfOk result (λ image. All IsFull image.regions) }
 {
+    framed_images_are_whole();
     framed_images_are_fine();
     framed_images_are_copied();
     bound_images_are_coded();

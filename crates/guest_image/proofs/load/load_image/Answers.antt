@@ -1,3 +1,8 @@
+use Rattle.std.proofs.Common.{◌≡◌, ℕ, ◌*◌, ◌<◌, ◌≤◌, [], length}
+use Rattle.std.specs.Prelude.{All, slice_index, slice_index_or}
+use Rattle.sh_types.specs.declared.code.Region.{Region}
+use Rattle.sh_types.specs.Image.{sizes_of}
+use Rattle.load_law.specs.Readable.{IsFull}
 use Rattle.sh_machines.specs.Fine.{IsFine}
 use Rattle.guest_image.proofs.Loading.{framable, of_framed, unbound}
 use Rattle.guest_image.proofs.load.load_image.Goals as goal
@@ -13,3 +18,15 @@ framed_file-requires-clause-framable g c κs lives =
 pub returns-in-Ok-clause-fine : goal.returns-in-Ok-clause-fine
 returns-in-Ok-clause-fine g c =
     of_framed IsFine c.args.bytes.now c.framed_file.result c.framed_file.ensures (λ fit. c.framed_images_are_fine.ensures c.args.bytes.now c.in-Ok.ensures.0 fit)
+
+pub returns-in-Ok-clause-words : goal.returns-in-Ok-clause-words
+returns-in-Ok-clause-words g c =
+    of_framed (λ image. (f : ℕ) → 4 * length (slice_index_or image.words f []) ≡ slice_index (sizes_of image) f) c.args.bytes.now c.framed_file.result c.framed_file.ensures (λ fit f. c.framed_images_are_whole.ensures.words c.args.bytes.now f c.in-Ok.ensures.0)
+
+pub returns-in-Ok-clause-apart : goal.returns-in-Ok-clause-apart
+returns-in-Ok-clause-apart g c =
+    of_framed (λ image. (j k : ℕ) (d : Region) → j < k → k < length image.regions → (slice_index_or image.regions j d).end ≤ (slice_index_or image.regions k d).start) c.args.bytes.now c.framed_file.result c.framed_file.ensures (λ fit j k d. c.framed_images_are_whole.ensures.apart c.args.bytes.now j k d c.in-Ok.ensures.0)
+
+pub returns-in-Ok-clause-full : goal.returns-in-Ok-clause-full
+returns-in-Ok-clause-full g c =
+    of_framed (λ image. All IsFull image.regions) c.args.bytes.now c.framed_file.result c.framed_file.ensures (λ fit. c.framed_images_are_whole.ensures.full c.args.bytes.now c.in-Ok.ensures.0)
