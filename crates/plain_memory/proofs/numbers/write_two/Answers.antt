@@ -1,0 +1,6 @@
+use Rattle.std.proofs.Common.{arith}
+use Rattle.plain_memory.proofs.Little.{there_put}
+use Rattle.plain_memory.proofs.numbers.write_two.Goals as goal
+
+pub returns : goal.returns
+returns c = there_put c.args.bytes.now c.args.at 2 c.args.value c.write_u16.new.buf c.requires (omega arith) c.write_u16.ensures

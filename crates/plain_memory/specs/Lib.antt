@@ -1,0 +1,4 @@
+pub mod Access
+pub mod Changed
+pub mod Laid
+pub mod Plain
