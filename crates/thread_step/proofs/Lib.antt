@@ -1,0 +1,7 @@
+pub mod Acting
+pub mod Classes
+pub mod Framing
+pub mod Grouping
+pub mod Lookups
+pub mod Numbering
+pub mod Words

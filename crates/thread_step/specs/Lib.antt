@@ -1,0 +1,4 @@
+pub mod Doing
+pub mod Framed
+pub mod Grouped
+pub mod Numbered
