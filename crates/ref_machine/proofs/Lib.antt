@@ -1,0 +1,17 @@
+pub mod Alone
+pub mod Calling
+pub mod Ending
+pub mod Kept
+pub mod Lives
+pub mod Lost
+pub mod Low
+pub mod Nexts
+pub mod Opening
+pub mod Order
+pub mod Places
+pub mod Rans
+pub mod Replies
+pub mod Same
+pub mod Sounds
+pub mod Steps
+pub mod Threads
