@@ -1,0 +1,8 @@
+//! Why words are no command.
+
+/// Why words are no command: memory was refused, or they have no meaning.
+#[derive(Clone, Copy, Debug, PartialEq, Eq)]
+pub enum WordFault {
+    NoMemory,
+    Usage,
+}
