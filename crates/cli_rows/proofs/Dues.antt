@@ -1,5 +1,5 @@
 -- What is said of all that the commands may come to.
-use Rattle.std.proofs.Common.{◌≡◌, ◌≤◌, ℕ, zero, suc, List, [], ◌∷◌, Bool, true, false, refl, arith}
+use Rattle.std.proofs.Common.{◌≡◌, ◌≤◌, ℕ, zero, suc, List, [], ◌∷◌, Bool, true, false, length, refl, arith}
 use Rattle.std.specs.Prelude.{Option, Some, None, nat_lt, if◌then◌else◌, Contains}
 use Rattle.sh_base.specs.Told.{FileAnswer}
 use Rattle.elf_rules.specs.declared.refusals.LoadFault.{LoadFault}
@@ -13,20 +13,26 @@ use Rattle.rv_asm.specs.Object.{object_of}
 use Rattle.rv_asm.specs.Passes.{fault_of}
 use Rattle.elf_write.specs.Written.{elf_file}
 use Rattle.image_text.specs.Listing.{listing_of}
+use Rattle.sh_machines.specs.Unmoved.{Unmoved}
 use Rattle.shuf_machine.specs.Past.{Past, guest_of}
-use Rattle.cli_rows.specs.declared.words.Command.{Command}
-use Rattle.cli_rows.specs.declared.words.Command.TheVariants.{Run, Check, Asm}
+use Rattle.cli_words.specs.declared.options.Opts.{Opts}
+use Rattle.cli_words.specs.declared.words.Command.{Command}
+use Rattle.cli_words.specs.declared.words.Command.TheVariants.{Run, Plain, Check, Asm}
 use Rattle.cli_rows.specs.declared.due.Due.{Due}
 use Rattle.cli_rows.specs.Dues.{line_due, text_due, store_due}
 use Rattle.cli_rows.specs.Lines.{usage_line}
-use Rattle.cli_rows.specs.Rows.{row_of, comes_to, unless_refused, unless_faulty}
-use Rattle.cli_rows.specs.Run.{run_status, ran_due, past_of, accepted_due}
+use Rattle.cli_rows.specs.declared.way.Way.TheVariants.{Moved}
+use Rattle.cli_rows.specs.declared.way.Way.TheVariants as way
+use Rattle.cli_rows.specs.Plain.{harts_of, left_by, plain_report, plain_due}
+use Rattle.cli_rows.specs.Rows.{Row, guest_due, row_of, comes_to, unless_refused, goes_on, with_input, unless_faulty}
+use Rattle.cli_rows.specs.Run.{run_status, ended_due, past_of, seed_for, report_of, accepted_due}
 use Rattle.cli_rows.specs.Said.{DueIsSaid}
 use Rattle.cli_rows.proofs.Each.{EachDue, each}
 
 -- what is said of all lines, texts, stores and runs is said of all that the commands come to
 module _ (P : Due → Type 0) (lines : (line : List ℕ) → P (line_due 12 line)) (text : (t : List ℕ) → P (text_due t))
-    (store : (name bytes : List ℕ) → P (store_due name bytes)) (run : (m : Past) → P (ran_due m)) where
+    (store : (name bytes : List ℕ) → P (store_due name bytes))
+    (ended : (out report : List ℕ) (end : Option End) (machine : Option Past) → P (ended_due out report end machine)) where
   of_refusal : (refusal : Option LoadFault) (due : Due) → P due → P (unless_refused refusal due)
   of_refusal None due p = p
   of_refusal (Some fault) due p = lines _
@@ -35,8 +41,30 @@ module _ (P : Due → Type 0) (lines : (line : List ℕ) → P (line_due 12 line
   of_fault None due p = p
   of_fault (Some fault) due p = lines _
 
+  of_input : (input : Option (List ℕ)) (made : List ℕ → Due) → ((bytes : List ℕ) → P (made bytes)) → EachDue P (with_input input made)
+  of_input None made p = p []
+  of_input (Some name) made p = λ bytes. p bytes
+
+  of_accepted : (refusal : Option LoadFault) (row : Row) → EachDue P row → EachDue P (goes_on refusal row)
+  of_accepted None row p = p
+  of_accepted (Some fault) row p = lines _
+
+  of_run : (opts : Opts) (file input seed : List ℕ) → P (accepted_due opts file input seed)
+  of_run opts file input seed =
+      let m : Past = past_of opts (framed_image file) file input (seed_for opts seed) in
+      ended (guest_of m).output (report_of opts.period m) (guest_of m).end (Some m)
+
+  of_plain : (opts : Opts) (file input : List ℕ) → P (plain_due opts (framed_image file) input)
+  of_plain opts file input =
+      let u : Unmoved = left_by opts (framed_image file) input in
+      ended u.output (plain_report (length (harts_of opts (framed_image file) input)) u.end) u.end None
+
+  of_guest : (input : Option (List ℕ)) (file : List ℕ) (made : List ℕ → Due) → ((bytes : List ℕ) → P (made bytes)) → EachDue P (goes_on (refusal_of file) (with_input input made))
+  of_guest input file made p = of_accepted (refusal_of file) (with_input input made) (of_input input made p)
+
   pub of_command : (command : Command) (seed : List ℕ) → EachDue P (row_of (Some command) seed)
-  of_command (Run name opts) seed = λ file. of_refusal (refusal_of file) (accepted_due file seed) (run (past_of (framed_image file) file seed))
+  of_command (Run name opts) seed = λ file. of_guest opts.input file (guest_due (Moved seed) opts file) (λ input. of_run opts file input seed)
+  of_command (Plain name opts) seed = λ file. of_guest opts.input file (guest_due way.Plain opts file) (λ input. of_plain opts file input)
   of_command (Check name) seed = λ file. of_refusal (refusal_of file) (text_due (listing_of (framed_image file) (mapped_by (segments_of file)))) (text _)
   of_command (Asm source target) seed = λ source. of_fault (fault_of source) (store_due target (elf_file (object_of source))) (store target _)
 
@@ -61,10 +89,10 @@ run_small (Some (Exit code)) = by (nat_lt 0 code)
 run_small (Some (Trapped kind hart pair value)) = (2, omega arith, refl)
 run_small (Some (Leak hart pair)) = (3, omega arith, refl)
 
-ran_said : (m : Past) → DueIsSaid (ran_due m)
-ran_said m = said (run_status (guest_of m).end) (run_small (guest_of m).end)
+ended_said : (out report : List ℕ) (end : Option End) (machine : Option Past) → DueIsSaid (ended_due out report end machine)
+ended_said out report end machine = said (run_status end) (run_small end)
   where
-    said : (s : ℕ) → Contains (0 ∷ 1 ∷ 2 ∷ 3 ∷ 4 ∷ []) s → DueIsSaid (record (ran_due m) { status = s })
+    said : (s : ℕ) → Contains (0 ∷ 1 ∷ 2 ∷ 3 ∷ 4 ∷ []) s → DueIsSaid (record (ended_due out report end machine) { status = s })
     said s (zero, lt, is) = record { statuses = (0, omega arith, is); stores = λ ne. refl; unmade = λ high. absurd (omega (arith, is)) }
     said s (suc zero, lt, is) = record { statuses = (1, omega arith, is); stores = λ ne. refl; unmade = λ high. absurd (omega (arith, is)) }
     said s (suc (suc zero), lt, is) = record { statuses = (2, omega arith, is); stores = λ ne. refl; unmade = λ high. absurd (omega (arith, is)) }
@@ -78,7 +106,7 @@ due_said command seed loads due is =
     (of_row DueIsSaid (λ line. line_said 12 line (7, omega arith, refl))
     (λ t. record { statuses = (0, omega arith, refl); stores = λ ne. refl; unmade = λ high. absurd (omega arith) })
     (λ name bytes. record { statuses = (0, omega arith, refl); stores = λ ne. absurd (ne refl); unmade = λ high. absurd (omega arith) })
-    ran_said (line_said 10 _ (5, omega arith, refl)) command seed) loads due is
+    ended_said (line_said 10 _ (5, omega arith, refl)) command seed) loads due is
 
 run_low : (end : Option End) → run_status end ≡ 10 → ⊥
 run_low None e = absurd (omega (arith, e))
@@ -97,7 +125,7 @@ NotUsage due = due.status ≡ 10 → ⊥
 pub not_usage : (command : Command) (seed : List ℕ) (loads : List FileAnswer) (due : Due) → comes_to (row_of (Some command) seed) loads ≡ Some due → due.status ≡ 10 → ⊥
 not_usage command seed loads due is =
     each NotUsage (λ name e. absurd (omega (arith, e))) (λ name limit e. absurd (omega (arith, e))) (row_of (Some command) seed)
-    (of_command NotUsage (λ line e. absurd (omega (arith, e))) (λ t e. absurd (omega (arith, e))) (λ name bytes e. absurd (omega (arith, e))) (λ m. run_low (guest_of m).end) command seed)
+    (of_command NotUsage (λ line e. absurd (omega (arith, e))) (λ t e. absurd (omega (arith, e))) (λ name bytes e. absurd (omega (arith, e))) (λ out report end machine. run_low end) command seed)
     loads due is
 
 -- it is no status of a failed write or of want of memory

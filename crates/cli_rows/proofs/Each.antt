@@ -5,7 +5,7 @@ use Rattle.sh_base.specs.Told.{FileAnswer}
 use Rattle.cli_rows.specs.declared.due.Due.{Due}
 use Rattle.cli_rows.specs.Dues.{unreadable_due, too_long_due}
 use Rattle.cli_rows.specs.Rows.{Row, Load, Come, at_end, after_load, bytes_of, comes_to}
-use Rattle.cli_rows.specs.Words.{same}
+use Rattle.cli_words.specs.Texts.{same}
 
 abbrev pub EachDue : (Due → Type 0) → Row → Type 0
 EachDue P (Come due) = P due

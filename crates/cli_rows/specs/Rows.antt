@@ -12,32 +12,46 @@ use Rattle.rv_asm.specs.Passes.{fault_of}
 use Rattle.elf_write.specs.Written.{elf_file}
 use Rattle.image_text.specs.Lines.{fault_line, source_line}
 use Rattle.image_text.specs.Listing.{listing_of}
-use Rattle.cli_rows.specs.declared.words.Command.{Command}
-use Rattle.cli_rows.specs.declared.words.Command.TheVariants.{Run, Check, Asm}
+use Rattle.cli_words.specs.declared.options.Opts.{Opts}
+use Rattle.cli_words.specs.declared.words.Command.{Command}
+use Rattle.cli_words.specs.declared.words.Command.TheVariants.{Run, Plain, Check, Asm}
+use Rattle.cli_words.specs.Texts.{same}
 use Rattle.cli_rows.specs.declared.due.Due.{Due}
+use Rattle.cli_rows.specs.declared.way.Way.{Way}
+use Rattle.cli_rows.specs.declared.way.Way.TheVariants.{Moved}
+use Rattle.cli_rows.specs.declared.way.Way.TheVariants as way
 use Rattle.cli_rows.specs.Dues.{line_due, text_due, store_due, usage_due, unreadable_due, too_long_due}
 use Rattle.cli_rows.specs.Limits.{file_limit}
+use Rattle.cli_rows.specs.Plain.{plain_due}
 use Rattle.cli_rows.specs.Run.{accepted_due}
-use Rattle.cli_rows.specs.Words.{same}
 
 -- a command loads a file of at most so many bytes and goes on by them, or comes to what is due
 pub data Row : Type 0 where
   Load : (name : List ℕ) (limit : ℕ) → (List ℕ → Row) → Row
   Come : Due → Row
 
--- a file that is refused is due its line
+-- a file that is refused is due the line on its refusal
+abbrev pub refused_due : LoadFault → Due
+refused_due fault = line_due 12 (fault_line fault)
+
 abbrev pub unless_refused : Option LoadFault → Due → Due
 unless_refused None due = due
-unless_refused (Some fault) due = line_due 12 (fault_line fault)
+unless_refused (Some fault) due = refused_due fault
+
+-- a row goes on only with a file that is accepted
+abbrev pub goes_on : Option LoadFault → Row → Row
+goes_on None row = row
+goes_on (Some fault) row = Come (refused_due fault)
+
+-- the input of a guest is what a file holds, where one is named, and else empty
+abbrev pub with_input : Option (List ℕ) → (List ℕ → Due) → Row
+with_input None made = Come (made [])
+with_input (Some name) made = Load name file_limit (λ input. Come (made input))
 
 -- a source that has a fault is due its line
 abbrev pub unless_faulty : Option LineFault → Due → Due
 unless_faulty None due = due
 unless_faulty (Some fault) due = line_due 12 (source_line fault.line fault.rule)
-
--- a run of the file
-abbrev pub run_due : (file seed : List ℕ) → Due
-run_due file seed = unless_refused (refusal_of file) (accepted_due file seed)
 
 -- the text that lists the file's image
 abbrev pub check_due : List ℕ → Due
@@ -47,8 +61,20 @@ check_due file = unless_refused (refusal_of file) (text_due (listing_of (framed_
 abbrev pub asm_due : (target source : List ℕ) → Due
 asm_due target source = unless_faulty (fault_of source) (store_due target (elf_file (object_of source)))
 
-abbrev pub run_row : (name seed : List ℕ) → Row
-run_row name seed = Load name file_limit (λ file. Come (run_due file seed))
+-- what is due for a guest that was run so
+abbrev pub guest_due : Way → Opts → (file input : List ℕ) → Due
+guest_due (Moved seed) opts file input = accepted_due opts file input seed
+guest_due way.Plain opts file input = plain_due opts (framed_image file) input
+
+-- a guest is run, by its file and its input
+abbrev pub guest_row : Way → (name : List ℕ) → Opts → Row
+guest_row way name opts = Load name file_limit (λ file. goes_on (refusal_of file) (with_input opts.input (guest_due way opts file)))
+
+abbrev pub run_row : (name : List ℕ) → Opts → (seed : List ℕ) → Row
+run_row name opts seed = guest_row (Moved seed) name opts
+
+abbrev pub plain_row : (name : List ℕ) → Opts → Row
+plain_row name opts = guest_row way.Plain name opts
 
 abbrev pub check_row : List ℕ → Row
 check_row name = Load name file_limit (λ file. Come (check_due file))
@@ -59,7 +85,8 @@ asm_row source target = Load source file_limit (λ text. Come (asm_due target te
 -- the commands, a row each
 abbrev pub row_of : Option Command → (seed : List ℕ) → Row
 row_of None seed = Come usage_due
-row_of (Some (Run name opts)) seed = run_row name seed
+row_of (Some (Run name opts)) seed = run_row name opts seed
+row_of (Some (Plain name opts)) seed = plain_row name opts
 row_of (Some (Check name)) seed = check_row name
 row_of (Some (Asm source target)) seed = asm_row source target
 

@@ -1,22 +1,25 @@
-//! What the commands of the command line come to: words, rows, and what is due.
+//! What the commands of the command line come to: rows, and what is due.
 #![tactic(auto)]
 
 mod asm;
 mod check;
 mod due;
+mod judging;
 mod laws;
 mod limits;
 mod lines;
 mod pace;
+mod plain;
 mod run;
-mod words;
+mod way;
 
 pub use asm::of_asm;
 pub use check::of_check;
+pub use cli_words::{Command, Opts, WordFault, numbers_are_in_range, read_words};
 pub use due::{Due, FileStore};
+pub use judging::{Judged, judge};
 pub use laws::dues_are_said;
 pub use limits::FILE_LIMIT;
 pub use lines::{too_long, unreadable, unwritable, usage};
 pub use pace::runs_keep_pace;
-pub use run::of_run;
-pub use words::{Command, Opts, WordFault, read_words};
+pub use way::{Way, of_guest};

@@ -1,28 +1,20 @@
 //! What is due for a run of a file.
 ghost use Rattle.std.specs.Prelude.{◌≡◌, [], IfOk, OnOk};
-ghost use Rattle.image_rules.specs.Framed.{framed_image};
-ghost use Rattle.sh_machines.specs.Copy.{IsCopyable};
-ghost use Rattle.sh_machines.specs.Fine.{IsFine};
-ghost use Rattle.sh_types.specs.Image.{sizes_of};
-ghost use Rattle.sh_types.specs.Sized.{IsSized};
-ghost use Rattle.shuf_machine.specs.Past.{guest_of, opening};
-ghost use Rattle.cli_rows.specs.Rows.{run_due};
-ghost use Rattle.cli_rows.specs.Run.{run_status, report_of, ran_due, run_of, accepted_due, origin_of};
+ghost use Rattle.shuf_machine.specs.Past.{guest_of};
+ghost use Rattle.cli_words.specs.Ranges.{IsInRange};
+ghost use Rattle.cli_rows.specs.Judged.{IsImageOf};
+ghost use Rattle.cli_rows.specs.Run.{run_status, report_of, ran_due, run_by, accepted_due};
 
 use crate::Due;
-use crate::limits::{PERIOD, QUANTUM, STEPS, WORKERS};
-use crate::lines::refused;
-use elf_rules::LoadFault;
-use guest_image::load_image;
+use cli_words::Opts;
 use hart_runner::{Plan, run_new};
 use period_report::{Form, report};
 use sh_types::{Bytes, End, Image, NoMemory};
 use shuf_machine::{Machine, Origin};
 use std::alloc::Global;
-use std::thread::Threads;
 
 /// The status of a run that ended so, or that may go on.
-fn status_of(end: Option<End>) -> u8
+pub fn status_of(end: Option<End>) -> u8
     ensures { result ≡ run_status end }
 {
     match end {
@@ -41,20 +33,20 @@ struct Told {
 }
 
 /// All that the guest wrote, and the report.
-fn tell(alloc: Global, machine: &Machine) -> Result<Told, NoMemory>
+fn tell(alloc: Global, machine: &Machine, period: u64) -> Result<Told, NoMemory>
     ensures out { IfOk result (λ t. t.out ≡ (guest_of machine.now).output) }
-    ensures report { IfOk result (λ t. t.report ≡ report_of machine.now) }
+    ensures report { IfOk result (λ t. t.report ≡ report_of period machine.now) }
 {
     let out = Bytes::from_slice(alloc, machine.output())?;
-    let report = report(alloc, machine, PERIOD, Form::Short)?;
+    let report = report(alloc, machine, period, Form::Short)?;
     Ok(Told { out, report })
 }
 
 /// A run that was made, and what it gives to the sinks.
-fn ran_with(told: Told, machine: Machine) -> Due
+fn ran_with(told: Told, machine: Machine, period: u64) -> Due
     requires out { told.out ≡ (guest_of machine).output }
-    requires report { told.report ≡ report_of machine }
-    ensures { result ≡ ran_due machine }
+    requires report { told.report ≡ report_of period machine }
+    ensures { result ≡ ran_due period machine }
 {
     let end = machine.end();
     Due {
@@ -67,78 +59,50 @@ fn ran_with(told: Told, machine: Machine) -> Due
     }
 }
 
-/// The machine of the image of the file, which has done nothing.
-fn machine_of(
-    alloc: Global,
-    image: Image,
-    file: Bytes,
-    seed: &[u8; 32],
-) -> Result<Machine, NoMemory>
-    requires fine { IsFine image }
-    requires sized { IsSized (sizes_of image) }
-    requires copyable { IsCopyable image }
-    ensures { IfOk result (λ machine. machine ≡ opening image (origin_of file seed.now)) }
-{
-    let origin = Origin {
-        file,
-        input: Bytes::new(alloc),
-        seed: *seed,
-    };
-    Machine::new(alloc, image, origin)
-}
-
 /// Runs a machine that has done nothing.
-fn run(alloc: Global, machine: &mut Machine) -> Result<Told, NoMemory>
+fn run(alloc: Global, machine: &mut Machine, opts: &Opts) -> Result<Told, NoMemory>
     requires fresh { machine.old.journal ≡ [] }
-    ensures ran { OnOk result (machine.new ≡ run_of machine.old) }
+    requires range { IsInRange opts.now }
+    ensures ran { OnOk result (machine.new ≡ run_by opts.now machine.old) }
     ensures out { IfOk result (λ t. t.out ≡ (guest_of machine.new).output) }
-    ensures report { IfOk result (λ t. t.report ≡ report_of machine.new) }
+    ensures report { IfOk result (λ t. t.report ≡ report_of opts.now.period machine.new) }
 {
     let plan = Plan {
-        period: PERIOD,
-        quantum: QUANTUM,
-        steps: STEPS,
-        workers: WORKERS,
+        period: opts.period,
+        quantum: opts.quantum,
+        steps: opts.steps,
+        workers: opts.workers,
     };
     run_new(alloc, machine, &plan)?;
-    tell(alloc, machine)
+    tell(alloc, machine, opts.period)
 }
 
 /// What is due for a machine that has done nothing. It is run by reference, so that it is dropped in one place.
-fn of_machine(alloc: Global, machine: Machine) -> Result<Due, NoMemory>
+fn of_machine(alloc: Global, machine: Machine, opts: &Opts) -> Result<Due, NoMemory>
     requires fresh { machine.journal ≡ [] }
-    ensures { IfOk result (λ due. due ≡ ran_due (run_of machine)) }
+    requires range { IsInRange opts.now }
+    ensures { IfOk result (λ due. due ≡ ran_due opts.now.period (run_by opts.now machine)) }
 {
     let mut machine = machine;
-    let told = run(alloc, &mut machine)?;
-    Ok(ran_with(told, machine))
+    let told = run(alloc, &mut machine, opts)?;
+    Ok(ran_with(told, machine, opts.period))
 }
 
-/// Runs the image of the file.
-fn of_image(alloc: Global, image: Image, file: Bytes, seed: &[u8; 32]) -> Result<Due, NoMemory>
-    requires image { image ≡ framed_image file }
-    requires fine { IsFine image }
-    requires sized { IsSized (sizes_of image) }
-    requires copyable { IsCopyable image }
-    ensures { IfOk result (λ due. due ≡ accepted_due file seed.now) }
-{
-    let machine = machine_of(alloc, image, file, seed)?;
-    of_machine(alloc, machine)
-}
-
-/// What is due for a run of the file under the seed of its layouts: what the guest writes and the report, or the line on
-/// a file that is refused. Err only where memory is refused.
-pub fn of_run<R: Threads + Sync>(
-    rt: &R,
+/// What is due for a run of the image of the file: what the guest writes and the report. The seed of its layouts is that
+/// of the options, or else `seed`. Err only where memory is refused.
+pub fn of_run(
     alloc: Global,
+    image: Image,
     file: Bytes,
+    input: Bytes,
+    opts: &Opts,
     seed: &[u8; 32],
 ) -> Result<Due, NoMemory>
-    ensures { IfOk result (λ due. due ≡ run_due file seed.now) }
+    requires image { IsImageOf file image }
+    requires range { IsInRange opts.now }
+    ensures { IfOk result (λ due. due ≡ accepted_due opts.now file input seed.now) }
 {
-    match load_image(rt, alloc, file.as_slice()) {
-        Ok(image) => of_image(alloc, image, file, seed),
-        Err(LoadFault::NoMemory) => Err(NoMemory),
-        Err(fault) => refused(alloc, fault),
-    }
+    let seed = opts.seed.unwrap_or(*seed);
+    let machine = Machine::new(alloc, image, Origin { file, input, seed })?;
+    of_machine(alloc, machine, opts)
 }

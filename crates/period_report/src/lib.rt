@@ -6,4 +6,5 @@ mod lines;
 mod sizes;
 mod writer;
 
+pub use lines::end as end_line;
 pub use writer::{Form, report};

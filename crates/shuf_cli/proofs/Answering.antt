@@ -5,7 +5,7 @@ use Rattle.std.proofs.lemmas.Bool.{cases_eq}
 use Rattle.sh_base.specs.Held.{Stores, OthersStand}
 use Rattle.sh_base.specs.declared.files.FileWord.TheVariants as words
 use Rattle.sh_base.specs.Told.{FileAnswer}
-use Rattle.cli_rows.specs.declared.words.Command.{Command}
+use Rattle.cli_words.specs.declared.words.Command.{Command}
 use Rattle.cli_rows.specs.declared.due.Due.{Due}
 use Rattle.shuf_cli.specs.declared.due.Done.{Done}
 use Rattle.cli_rows.specs.declared.due.FileStore.{FileStore}

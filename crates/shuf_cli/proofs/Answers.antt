@@ -4,7 +4,7 @@ use Rattle.std.specs.Prelude.{Option, Some, None, Contains, IsSomeAnd}
 use Rattle.std.proofs.lemmas.Bool.{cases_eq}
 use Rattle.sh_base.specs.Faults.{Rose}
 use Rattle.sh_base.specs.Told.{FileAnswer}
-use Rattle.cli_rows.specs.declared.words.Command.{Command}
+use Rattle.cli_words.specs.declared.words.Command.{Command}
 use Rattle.cli_rows.specs.declared.due.Due.{Due}
 use Rattle.shuf_cli.specs.declared.due.Done.{Done}
 use Rattle.cli_rows.specs.declared.due.FileStore.{FileStore}

@@ -1,4 +1,5 @@
 pub mod Answering
 pub mod Answers
+pub mod Going
 pub mod Loading
 pub mod Readable

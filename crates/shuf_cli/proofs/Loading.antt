@@ -12,13 +12,13 @@ use Rattle.sh_base.specs.Held.{FileMap, Loads}
 use Rattle.sh_base.specs.Told.{FileAnswer}
 use Rattle.sh_base.specs.Tells.{gave, failed}
 use Rattle.sh_types.specs.declared.runs.NoMemory.{NoMemory}
-use Rattle.cli_rows.specs.declared.words.Command.{Command}
+use Rattle.cli_words.specs.declared.words.Command.{Command}
 use Rattle.cli_rows.specs.declared.due.Due.{Due}
 use Rattle.shuf_cli.specs.Answer.{FilesState, LoadRose, Grows}
 use Rattle.shuf_cli.specs.Asked.{AreAsked, HaveCauses, Loaded, Came, Stopped, Gave}
 use Rattle.cli_rows.specs.Dues.{usage_due, unreadable_due, too_long_due}
 use Rattle.cli_rows.specs.Rows.{Row, Load, Come, row_of, comes_to, AreOf}
-use Rattle.cli_rows.specs.Words.{same}
+use Rattle.cli_words.specs.Texts.{same}
 
 same_self : (a : List ℕ) → same a a ≡ true
 same_self a = nat_list_eq_equiv.refl a

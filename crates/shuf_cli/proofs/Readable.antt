@@ -14,7 +14,7 @@ use Rattle.shuf_cli.specs.Asked.{Loaded}
 use Rattle.cli_rows.specs.Dues.{unreadable_due, too_long_due}
 use Rattle.cli_rows.specs.Rows.{Row, Load, at_end, after_load, bytes_of, comes_to, AreOf}
 use Rattle.shuf_cli.specs.Said.{IsReadable, Lacks}
-use Rattle.cli_rows.specs.Words.{same}
+use Rattle.cli_words.specs.Texts.{same}
 
 -- a held file within the limit is loaded as it is
 loaded_same : (held : Option FileMap) (name file loaded : List ℕ) (limit : ℕ) → IsSomeAnd held (λ files. map.get files name ≡ Some file) → length file ≤ limit

@@ -1,5 +1,5 @@
 -- The loads of a call, and what is due by them.
-use Rattle.std.specs.Prelude.{◌≡◌, List, ℕ, ◌≤◌, length, [], ◌∷◌, ◌++◌, Some, IsSome, MatchOption, ⊤}
+use Rattle.std.specs.Prelude.{◌≡◌, List, ℕ, ◌≤◌, length, [], ◌∷◌, ◌++◌, Option, Some, IsSome, MatchOption, ⊤}
 use Rattle.sh_base.specs.Told.{FileAnswer}
 use Rattle.sh_base.specs.Tells.{gave}
 use Rattle.sh_base.specs.Held.{Loads}
@@ -7,7 +7,7 @@ use Rattle.cli_rows.specs.declared.due.Due.{Due}
 use Rattle.shuf_cli.specs.declared.due.FileOr.{FileOr}
 use Rattle.shuf_cli.specs.declared.due.FileOr.TheVariants.{File, Instead}
 use Rattle.shuf_cli.specs.Answer.{FilesState, LoadRose, Grows}
-use Rattle.cli_rows.specs.Rows.{Row, Load, comes_to, AreOf}
+use Rattle.cli_rows.specs.Rows.{Row, Load, with_input, comes_to, AreOf}
 
 -- these are loads that the row asks for, in its order: with some more of them it comes to what is due
 abbrev pub AreAsked : Row → List FileAnswer → Type 0
@@ -51,3 +51,8 @@ pub record Gave (name : List ℕ) (limit : ℕ) (files files' : FilesState) (byt
 abbrev pub Gives : (name : List ℕ) (limit : ℕ) → FilesState → FilesState → FileOr → Type 0
 Gives name limit files files' (File bytes) = Gave name limit files files' bytes
 Gives name limit files files' (Instead due) = (next : List ℕ → Row) → Came (Load name limit next) files files' due
+
+-- the input of a guest is there, or what is due in its place, whatever the guest makes of it
+abbrev pub GivesInput : Option (List ℕ) → FilesState → FilesState → FileOr → Type 0
+GivesInput name files files' (File bytes) = (made : List ℕ → Due) → Came (with_input name made) files files' (made bytes)
+GivesInput name files files' (Instead due) = (made : List ℕ → Due) → Came (with_input name made) files files' due

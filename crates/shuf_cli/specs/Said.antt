@@ -4,7 +4,7 @@ use Rattle.std.specs.FinMap as map
 use Rattle.sh_base.specs.declared.files.FileWord.TheVariants.{Load}
 use Rattle.sh_base.specs.Faults.{Rose, fault_count}
 use Rattle.sh_base.specs.Held.{FileMap}
-use Rattle.cli_rows.specs.declared.words.Command.{Command}
+use Rattle.cli_words.specs.declared.words.Command.{Command}
 use Rattle.shuf_cli.specs.declared.due.Done.{Done}
 use Rattle.shuf_cli.specs.Answer.{FilesState, World}
 

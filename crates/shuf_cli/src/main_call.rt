@@ -1,5 +1,6 @@
 //! The top call with workers.
-ghost use Rattle.cli_rows.specs.Words.{texts, command_of};
+ghost use Rattle.cli_words.specs.Texts.{texts};
+ghost use Rattle.cli_words.specs.Words.{command_of};
 ghost use Rattle.shuf_cli.specs.Headline.{Answered};
 
 use crate::{Done, serial_command};

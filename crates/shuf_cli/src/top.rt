@@ -1,5 +1,6 @@
 //! The top call: all that the program does.
-ghost use Rattle.cli_rows.specs.Words.{texts, command_of};
+ghost use Rattle.cli_words.specs.Texts.{texts};
+ghost use Rattle.cli_words.specs.Words.{command_of};
 ghost use Rattle.shuf_cli.specs.Headline.{Answered};
 
 use crate::Done;
@@ -9,11 +10,12 @@ use sh_base::{Files, Sink};
 use std::alloc::Global;
 use std::thread::Threads;
 
-/// Does a command: `words` are those of the command line, `seed` is that of the layouts. It loads from `files`. For a
-/// run it writes to `out` what the guest wrote and to `report` the report on the run; for a check it writes to `out`
-/// the list of the executable; for an assembly it stores the executable in `files` and writes nothing. Else it writes
-/// one line to `report`. A guest of every accepted file is run, until it ends or has had 100,000,000 instructions,
-/// with no input and a new layout after every 100,000 instructions. It waits for nobody.
+/// Does a command: `words` are those of the command line, `seed` is that of the layouts where the words give none. It
+/// loads from `files`. For a run, moved or plain, it writes to `out` what the guest wrote and to `report` the report on
+/// the run; for a check it writes to `out` the list of the executable; for an assembly it stores the executable in
+/// `files` and writes nothing. Else it writes one line to `report`. A guest of every accepted file is run, until it ends
+/// or has had as many instructions as the words give, with the input that they name, and where it is moved with a new
+/// layout after every period. It waits for nobody.
 pub fn serial_command<R: Threads + Sync, F: Files, O: Sink, E: Sink>(
     rt: &R,
     alloc: Global,

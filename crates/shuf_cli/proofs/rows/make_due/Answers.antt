@@ -1,5 +1,6 @@
-use Rattle.std.proofs.Common.{ap, refl}
+use Rattle.std.proofs.Common.{ap, refl, rules}
 use Rattle.std.specs.Prelude.{Err}
+use Rattle.cli_words.specs.Texts.{texts}
 use Rattle.shuf_cli.proofs.Loading.{usage_came, stopped_here}
 use Rattle.shuf_cli.proofs.rows.make_due.Goals as goal
 
@@ -8,3 +9,6 @@ returns-in-Err-Usage-clause-came g c = usage_came _ _ _ _ (c.in-Err-Usage.ensure
 
 pub returns-in-Err-NoMemory-clause-memory : goal.returns-in-Err-NoMemory-clause-memory
 returns-in-Err-NoMemory-clause-memory g c = stopped_here _ _ _ refl refl
+
+pub do_command-requires : goal.do_command-requires
+do_command-requires g c = (search rules, c.numbers_are_in_range.ensures (texts c.args.words.now) c.in-Ok.command c.in-Ok.ensures.command)
