@@ -1,19 +1,7 @@
-//! Tests of the loader over whole files: for each rule a file that fails it and passes all before it, and what is bound
-//! and loaded of other files.
+//! The file of the first guest, which tests of other crates use too, and tests of what `check` does not tell of a file: the
+//! rows of its frames and its regions. Files that are refused stand in `examples/files`.
 #![tactic(auto)]
 
 #[cfg(test)]
-mod cases;
-#[cfg(test)]
-mod functions;
-#[cfg(test)]
-mod headers;
-#[cfg(test)]
 mod images;
-#[cfg(test)]
-mod lines;
 pub mod patches;
-#[cfg(test)]
-mod sections;
-#[cfg(test)]
-mod symbols;

@@ -1,28 +1,9 @@
-//! The first guest's file, with numbers changed, and why it cannot be bound.
-use elf_rules::LoadFault;
-use image_binding::bind_file;
+//! The first guest's file, with a number changed.
 use sample_files::{HOME, Sample, file_of};
 use std::alloc::{AllocError, Global};
 
 /// A number of so many bytes at a place of the file.
 pub type Patch = (usize, usize, u64);
-
-/// Where the two program headers stand (System V gABI, "Program Header").
-pub const FIRST_PROGRAM: usize = 64;
-
-pub const SECOND_PROGRAM: usize = 120;
-
-/// Where the symbols of `start` and `three`, the strings and the section headers stand.
-pub const START_SYMBOL: usize = 0x2018;
-
-pub const THREE_SYMBOL: usize = 0x2030;
-
-pub const STRINGS_END: usize = 0x2055;
-
-pub const SECTIONS: usize = 0x2098;
-
-/// A number that no place in a file has.
-pub const HUGE: u64 = u64::MAX;
 
 /// `start` stores three bytes, calls `three` and makes the calls 64 and 93; `three` sets a2.
 pub const CODE: [u32; 17] = [
@@ -45,13 +26,6 @@ pub const CODE: [u32; 17] = [
     0x0000_8067,
 ];
 
-/// The place of a field of the section header with this number.
-pub const fn section(number: usize, field: usize) -> usize {
-    SECTIONS
-        .wrapping_add(number.wrapping_mul(64))
-        .wrapping_add(field)
-}
-
 /// The file of the first guest.
 pub fn first_file(alloc: Global) -> Result<Vec<u8>, AllocError> {
     let sample = Sample {
@@ -69,19 +43,5 @@ pub fn patch(file: &mut [u8], (at, width, value): Patch) {
         if let Some(place) = file.get_mut(at.wrapping_add(i)) {
             *place = *byte;
         }
-    }
-}
-
-pub fn patch_all(file: &mut [u8], patches: &[Patch]) {
-    for one in patches {
-        patch(file, *one);
-    }
-}
-
-/// Why the file is refused before its frames are looked at.
-pub fn refusal(alloc: Global, file: &[u8]) -> Option<LoadFault> {
-    match bind_file(alloc, file) {
-        Ok(_) => None,
-        Err(fault) => Some(fault),
     }
 }

@@ -1,10 +1,9 @@
 //! Calls of the top call under the seed of zeros, and what comes of them. These functions have no contract, so that
 //! their callers do not carry that of the top call.
-use sh_base::{MemFiles, MemSink, NoGate};
+use sh_base::{MemFiles, MemSink};
 use sh_types::{Bytes, Items, Name};
-use shuf_cli::{Done, serial_command, shuffler_main};
+use shuf_cli::{Done, serial_command};
 use std::alloc::{AllocError, Global};
-use std::sync::Wait;
 use std::thread::Threads;
 
 /// Files that hold these bytes under this name. The call of this number fails, if there is a number.
@@ -91,18 +90,6 @@ fn top<R: Threads + Sync>(
     serial_command(rt, alloc, words, files, out, report, &[0; 32])
 }
 
-/// The same with workers.
-fn top_main<R: Threads + Wait + Sync>(
-    rt: &R,
-    alloc: Global,
-    words: &[String],
-    files: &mut MemFiles,
-    out: &mut MemSink,
-    report: &mut MemSink,
-) -> Done {
-    shuffler_main(rt, alloc, words, files, out, report, &[0; 32], &NoGate)
-}
-
 /// Does a command.
 pub fn call<R: Threads + Sync>(
     rt: &R,
@@ -115,21 +102,6 @@ pub fn call<R: Threads + Sync>(
     let mut out = sink_of(alloc, fails == Fails::Out)?;
     let mut report = sink_of(alloc, fails == Fails::Report)?;
     let done = top(rt, alloc, &words, files, &mut out, &mut report);
-    let held = held_by(alloc, &out, &report)?;
-    Ok(with_sinks(done, held))
-}
-
-/// The same by the call with workers.
-pub fn call_main<R: Threads + Wait + Sync>(
-    rt: &R,
-    alloc: Global,
-    words: &[&str],
-    files: &mut MemFiles,
-) -> Result<Told, AllocError> {
-    let words = words_of(alloc, words)?;
-    let mut out = sink_of(alloc, false)?;
-    let mut report = sink_of(alloc, false)?;
-    let done = top_main(rt, alloc, &words, files, &mut out, &mut report);
     let held = held_by(alloc, &out, &report)?;
     Ok(with_sinks(done, held))
 }
