@@ -6,3 +6,4 @@ mod ciphers;
 pub mod copies;
 #[cfg(test)]
 mod layouts;
+pub mod pages;
