@@ -7,11 +7,9 @@ ghost use Rattle.sh_machines.specs.Fine.{IsFine};
 use elf_rules::LoadFault;
 use elf_table::patches::first_file;
 use guest_image::load_image;
-use sh_base::{MemFiles, MemSink};
-use sh_types::{Bytes, FetchLog, Image, Items, Name, NoMemory};
-use shuf_cli::{Done, serial_command};
+use sh_types::{Bytes, FetchLog, Image, NoMemory};
 use shuf_machine::{Machine, MachineNo, Origin};
-use std::alloc::{AllocError, Global};
+use std::alloc::Global;
 use std::thread::Threads;
 
 /// A new machine of the file.
@@ -55,59 +53,4 @@ pub fn run_first<R: Threads + Sync>(
         Err(LoadFault::NoMemory) => Err(MachineNo::NoMemory),
         Err(_) => Ok(0),
     }
-}
-
-/// The call with this number, or none where there is no number.
-fn numbers_of(alloc: Global, number: Option<u64>) -> Result<Items<u64>, AllocError> {
-    let mut numbers = Items::new(alloc);
-    if let Some(number) = number {
-        numbers.push(number)?;
-    }
-    Ok(numbers)
-}
-
-/// Files that hold the first guest's file as `a.elf`. The call with the number fails, if there is one.
-pub fn first_files(alloc: Global, fails: Option<u64>) -> Result<MemFiles, AllocError> {
-    let mut names = Items::new(alloc);
-    names.push(Name::from_str(alloc, "a.elf")?)?;
-    let mut contents = Items::new(alloc);
-    contents.push(Bytes::from_vec(first_file(alloc)?))?;
-    Ok(MemFiles::new(alloc, names, contents, numbers_of(alloc, fails)?))
-}
-
-/// An empty sink. The write with the number fails, if there is one.
-pub fn sink_of(alloc: Global, fails: Option<u64>) -> Result<MemSink, AllocError> {
-    MemSink::new(alloc, 4096, numbers_of(alloc, fails)?).map_err(|_| AllocError)
-}
-
-pub fn words_of(alloc: Global, words: &[&str]) -> Result<Vec<String>, AllocError> {
-    let mut texts = Vec::new(alloc);
-    for word in words {
-        texts.push(String::from_str(alloc, word)?)?;
-    }
-    Ok(texts)
-}
-
-/// The top call. It says nothing of its own, so that its callers stay small.
-pub fn top<R: Threads + Sync>(
-    rt: &R,
-    alloc: Global,
-    words: &[String],
-    files: &mut MemFiles,
-    out: &mut MemSink,
-    report: &mut MemSink,
-) -> Done {
-    serial_command(rt, alloc, words, files, out, report, &[0; 32])
-}
-
-/// The status of the top call.
-pub fn status<R: Threads + Sync>(
-    rt: &R,
-    alloc: Global,
-    words: &[String],
-    files: &mut MemFiles,
-    out: &mut MemSink,
-    report: &mut MemSink,
-) -> u8 {
-    top(rt, alloc, words, files, out, report).status
 }

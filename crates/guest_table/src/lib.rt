@@ -1,5 +1,5 @@
-//! Tests of what only a call of the library shows: the words that a run asks for, what the answer has where the output
-//! fails, and that a load is a call of the files. What guests come to is said beside their sources.
+//! Tests of what only a call of the library shows: the words that a run asks for. What guests come to is said beside their
+//! sources.
 #![tactic(auto)]
 
 #[cfg(test)]
