@@ -1,5 +1,5 @@
 //! What is loaded of a file, by values worked out by hand.
-use crate::patches::CODE;
+use crate::first_guest::CODE;
 use elf_rules::LoadFault;
 use guest_image::load_image;
 use sample_files::{HOME, Sample, file_of};

@@ -2,6 +2,6 @@
 //! rows of its frames and its regions. Files that are refused stand in `examples/files`.
 #![tactic(auto)]
 
+pub mod first_guest;
 #[cfg(test)]
 mod images;
-pub mod patches;

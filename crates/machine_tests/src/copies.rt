@@ -52,7 +52,7 @@ pub fn copy_of_file<R: Threads + Sync>(
 mod tests {
     use super::{CodeCopy, copy_of_file};
     use code_eraser::erase;
-    use elf_table::patches::first_file;
+    use elf_table::first_guest::first_file;
     use std::test::Fail;
 
     fn word_in(copy: &CodeCopy, address: u64) -> Option<u32> {

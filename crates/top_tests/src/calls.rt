@@ -6,22 +6,13 @@ use shuf_cli::{Done, serial_command};
 use std::alloc::{AllocError, Global};
 use std::thread::Threads;
 
-/// Files that hold these bytes under this name. The call of this number fails, if there is a number.
-pub fn files_of(
-    alloc: Global,
-    name: &str,
-    file: &[u8],
-    fails: Option<u64>,
-) -> Result<MemFiles, AllocError> {
+/// The file `a.elf`.
+fn files_of(alloc: Global, file: &[u8]) -> Result<MemFiles, AllocError> {
     let mut names = Items::new(alloc);
-    names.push(Name::from_str(alloc, name)?)?;
+    names.push(Name::from_str(alloc, "a.elf")?)?;
     let mut contents = Items::new(alloc);
     contents.push(Bytes::from_slice(alloc, file)?)?;
-    let mut numbers = Items::new(alloc);
-    if let Some(number) = fails {
-        numbers.push(number)?;
-    }
-    Ok(MemFiles::new(alloc, names, contents, numbers))
+    Ok(MemFiles::new(alloc, names, contents, Items::new(alloc)))
 }
 
 /// A sink that fails at its first write, or at none.
@@ -33,20 +24,12 @@ fn sink_of(alloc: Global, fails: bool) -> Result<MemSink, AllocError> {
     MemSink::new(alloc, 4096, numbers).map_err(|_| AllocError)
 }
 
-fn words_of(alloc: Global, words: &[&str]) -> Result<Vec<String>, AllocError> {
+fn words_of(alloc: Global) -> Result<Vec<String>, AllocError> {
     let mut all = Vec::new(alloc);
-    for word in words {
+    for word in ["run", "a.elf", "--serial"] {
         all.push(String::from_str(alloc, word)?)?;
     }
     Ok(all)
-}
-
-/// Which of the sinks fails.
-#[derive(Clone, Copy, Debug, PartialEq, Eq)]
-pub enum Fails {
-    Neither,
-    Out,
-    Report,
 }
 
 /// What came of a call: the answer, and what the sinks hold.
@@ -90,18 +73,17 @@ fn top<R: Threads + Sync>(
     serial_command(rt, alloc, words, files, out, report, &[0; 32])
 }
 
-/// Does a command.
-pub fn call<R: Threads + Sync>(
+/// Runs the file over an output that fails.
+pub fn run_without_output<R: Threads + Sync>(
     rt: &R,
     alloc: Global,
-    words: &[&str],
-    files: &mut MemFiles,
-    fails: Fails,
+    file: &[u8],
 ) -> Result<Told, AllocError> {
-    let words = words_of(alloc, words)?;
-    let mut out = sink_of(alloc, fails == Fails::Out)?;
-    let mut report = sink_of(alloc, fails == Fails::Report)?;
-    let done = top(rt, alloc, &words, files, &mut out, &mut report);
+    let words = words_of(alloc)?;
+    let mut files = files_of(alloc, file)?;
+    let mut out = sink_of(alloc, true)?;
+    let mut report = sink_of(alloc, false)?;
+    let done = top(rt, alloc, &words, &mut files, &mut out, &mut report);
     let held = held_by(alloc, &out, &report)?;
     Ok(with_sinks(done, held))
 }

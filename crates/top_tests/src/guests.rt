@@ -1,21 +1,18 @@
-//! Runs of the first guest, which writes `hi` and a line feed.
-use crate::calls::Fails;
-use crate::commands::{expect, patched};
+//! A run of the first guest, which writes `hi` and a line feed and ends with code 0, over an output that fails.
+use crate::calls::run_without_output;
+use elf_table::first_guest::first_file;
+use sh_types::End;
 use std::test::Fail;
 
-const RUN: [&str; 3] = ["run", "a.elf", "--serial"];
-
-/// A write is made also where the guest wrote nothing. Where the report fails the output is written.
+/// The run is made and its end and machine are handed out, and no report is written.
 #[test]
-fn sinks_that_fail(rt: HostRuntime) -> Result<(), Fail> {
-    let table = [
-        ((0, 0, 0), Fails::Out, ""),
-        ((0x1028, 4, 0x05d0_0893), Fails::Out, ""),
-        ((0, 0, 0), Fails::Report, "hi\n"),
-    ];
-    for (one, fails, out) in table {
-        let file = patched(rt.alloc(), one)?;
-        expect(&rt, rt.alloc(), &RUN, &file, fails, (13, out, ""))?;
-    }
+fn an_output_that_fails(rt: HostRuntime) -> Result<(), Fail> {
+    let file = first_file(rt.alloc())?;
+    let told = run_without_output(&rt, rt.alloc(), &file)?;
+    assert_eq!(rt; told.done.status, 13);
+    assert_eq!(rt; told.done.end, Some(End::Exit { code: 0 }));
+    assert!(rt; told.done.machine.is_some(), "the machine");
+    assert_eq!(rt; told.out.as_slice(), b"".as_slice());
+    assert_eq!(rt; told.report.as_slice(), b"".as_slice());
     Ok(())
 }

@@ -1,10 +1,8 @@
-//! Tests of the top call over files and sinks in memory, as far as the program cannot show it: sinks and stores that fail.
-//! What commands come to stands in `examples`.
+//! A test of the top call over sinks in memory, as far as the program cannot show it: what is handed out where the output
+//! fails. What commands come to stands in `examples`.
 #![tactic(auto)]
 
 #[cfg(test)]
 mod calls;
-#[cfg(test)]
-mod commands;
 #[cfg(test)]
 mod guests;

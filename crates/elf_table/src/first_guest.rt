@@ -1,9 +1,6 @@
-//! The first guest's file, with a number changed.
+//! The first guest's file.
 use sample_files::{HOME, Sample, file_of};
 use std::alloc::{AllocError, Global};
-
-/// A number of so many bytes at a place of the file.
-pub type Patch = (usize, usize, u64);
 
 /// `start` stores three bytes, calls `three` and makes the calls 64 and 93; `three` sets a2.
 pub const CODE: [u32; 17] = [
@@ -35,13 +32,4 @@ pub fn first_file(alloc: Global) -> Result<Vec<u8>, AllocError> {
         data: b"",
     };
     file_of(alloc, &sample)
-}
-
-/// Writes a number into the file, the lowest byte first.
-pub fn patch(file: &mut [u8], (at, width, value): Patch) {
-    for (i, byte) in value.to_le_bytes().iter().take(width).enumerate() {
-        if let Some(place) = file.get_mut(at.wrapping_add(i)) {
-            *place = *byte;
-        }
-    }
 }
