@@ -1,7 +1,7 @@
 //! Calls of the top call under the seed of zeros, and what comes of them. These functions have no contract, so that
 //! their callers do not carry that of the top call.
 use sh_base::{MemFiles, MemSink};
-use sh_types::{Bytes, Items, Name};
+use sh_types::{Bytes, End, Items, Name};
 use shuf_cli::{Done, serial_command};
 use std::alloc::{AllocError, Global};
 use std::thread::Threads;
@@ -32,33 +32,43 @@ fn words_of(alloc: Global) -> Result<Vec<String>, AllocError> {
     Ok(all)
 }
 
+/// What an answer says; its machine is dropped where this is made, and nowhere else.
+#[derive(Clone, Copy)]
+pub struct Answer {
+    pub status: u8,
+    pub end: Option<End>,
+    pub has_machine: bool,
+}
+
+fn answer_of(done: Done) -> Answer {
+    Answer {
+        status: done.status,
+        end: done.end,
+        has_machine: done.machine.is_some(),
+    }
+}
+
 /// What came of a call: the answer, and what the sinks hold.
 #[derive(Drop)]
 pub struct Told {
-    pub done: Done,
+    pub answer: Answer,
     pub out: Bytes,
     pub report: Bytes,
 }
 
-/// What two sinks hold.
-#[derive(Drop)]
-struct Held {
-    out: Bytes,
-    report: Bytes,
-}
-
-fn held_by(alloc: Global, out: &MemSink, report: &MemSink) -> Result<Held, AllocError> {
+fn told_with(
+    alloc: Global,
+    answer: Answer,
+    out: &MemSink,
+    report: &MemSink,
+) -> Result<Told, AllocError> {
     let out = Bytes::from_slice(alloc, out.content())?;
     let report = Bytes::from_slice(alloc, report.content())?;
-    Ok(Held { out, report })
-}
-
-fn with_sinks(done: Done, held: Held) -> Told {
-    Told {
-        done,
-        out: held.out,
-        report: held.report,
-    }
+    Ok(Told {
+        answer,
+        out,
+        report,
+    })
 }
 
 /// The top call. It says nothing of its own, so that its callers stay small.
@@ -69,8 +79,8 @@ fn top<R: Threads + Sync>(
     files: &mut MemFiles,
     out: &mut MemSink,
     report: &mut MemSink,
-) -> Done {
-    serial_command(rt, alloc, words, files, out, report, &[0; 32])
+) -> Answer {
+    answer_of(serial_command(rt, alloc, words, files, out, report, &[0; 32]))
 }
 
 /// Runs the file over an output that fails.
@@ -83,7 +93,6 @@ pub fn run_without_output<R: Threads + Sync>(
     let mut files = files_of(alloc, file)?;
     let mut out = sink_of(alloc, true)?;
     let mut report = sink_of(alloc, false)?;
-    let done = top(rt, alloc, &words, &mut files, &mut out, &mut report);
-    let held = held_by(alloc, &out, &report)?;
-    Ok(with_sinks(done, held))
+    let answer = top(rt, alloc, &words, &mut files, &mut out, &mut report);
+    told_with(alloc, answer, &out, &report)
 }

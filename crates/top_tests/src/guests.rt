@@ -9,9 +9,9 @@ use std::test::Fail;
 fn an_output_that_fails(rt: HostRuntime) -> Result<(), Fail> {
     let file = first_file(rt.alloc())?;
     let told = run_without_output(&rt, rt.alloc(), &file)?;
-    assert_eq!(rt; told.done.status, 13);
-    assert_eq!(rt; told.done.end, Some(End::Exit { code: 0 }));
-    assert!(rt; told.done.machine.is_some(), "the machine");
+    assert_eq!(rt; told.answer.status, 13);
+    assert_eq!(rt; told.answer.end, Some(End::Exit { code: 0 }));
+    assert!(rt; told.answer.has_machine, "the machine");
     assert_eq!(rt; told.out.as_slice(), b"".as_slice());
     assert_eq!(rt; told.report.as_slice(), b"".as_slice());
     Ok(())
