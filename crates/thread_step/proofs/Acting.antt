@@ -1,5 +1,5 @@
 -- That an instruction was done, where its kind is known otherwise, and where it only traps or calls.
-use Rattle.std.proofs.Common.{◌≡◌, ℕ, List, true, false, refl, sym, subst}
+use Rattle.std.proofs.Common.{◌≡◌, ℕ, List, true, false, refl, sym, ap, subst}
 use Rattle.std.specs.Prelude.{Result, IfOk, ◌&&◌, slice_index}
 use Rattle.rv_table.specs.Arithmetic.{is_branch}
 use Rattle.rv_table.specs.Operands.{both_ra}
@@ -7,6 +7,7 @@ use Rattle.rv_table.specs.declared.instructions.Instr.{Instr}
 use Rattle.sh_machines.specs.Need.{answered}
 use Rattle.sh_machines.specs.Kind.{Kind, Asks, Branches, Breaks, Illegal, Passes, Past}
 use Rattle.sh_machines.specs.Unmoved.{Content, is_return, thread_does}
+use Rattle.sh_types.specs.declared.code.Image.{Image}
 use Rattle.sh_types.specs.declared.code.Pair.{Pair}
 use Rattle.sh_types.specs.declared.code.Region.{Region}
 use Rattle.sh_types.specs.declared.runs.NoMemory.{NoMemory}
@@ -16,17 +17,23 @@ use Rattle.thread_acts.specs.declared.answers.Did.{Did}
 use Rattle.thread_acts.specs.declared.answers.Did.TheVariants.{Call, Leak, Trapped}
 use Rattle.thread_acts.specs.declared.threads.Thread.{Thread}
 use Rattle.thread_step.specs.Doing.{Does, DoesAlone}
+use Rattle.thread_step.specs.Task.{kind_of}
+use Rattle.thread_step.specs.declared.tasks.Task.{Task}
 use Rattle.thread_step.proofs.Grouping.{never_taken}
 
 -- by an equal kind
-pub does_as : (regions : List Region) (t t' : Thread) (u u' : ℕ → Content) (did : Did) (k k' : Kind Pair) → k' ≡ k → Does regions t t' u u' k did → Does regions t t' u u' k' did
-does_as regions t t' u u' did k k' e d = subst (λ x. Does regions t t' u u' x did) (sym e) d
-
-pub alone_as : (t t' : Thread) (did : Did) (k k' : Kind Pair) → k' ≡ k → DoesAlone t t' k did → DoesAlone t t' k' did
-alone_as t t' did k k' e d = subst (λ x. DoesAlone t t' x did) (sym e) d
-
 pub ok_as : (regions : List Region) (t t' : Thread) (u u' : ℕ → Content) (r : Result Did NoMemory) (k k' : Kind Pair) → k' ≡ k → IfOk r (λ did. Does regions t t' u u' k did) → IfOk r (λ did. Does regions t t' u u' k' did)
 ok_as regions t t' u u' r k k' e d = subst (λ x. IfOk r (λ did. Does regions t t' u u' x did)) (sym e) d
+
+-- by an equal task
+pub does_task : (image : Image) (p : Pair) (s s' : Task) (regions : List Region) (t t' : Thread) (u u' : ℕ → Content) (did : Did) → s ≡ s' → Does regions t t' u u' (kind_of image p s') did → Does regions t t' u u' (kind_of image p s) did
+does_task image p s s' regions t t' u u' did e d = subst (λ x. Does regions t t' u u' (kind_of image p x) did) (sym e) d
+
+pub alone_task : (image : Image) (p : Pair) (s s' : Task) (t t' : Thread) (did : Did) → s ≡ s' → DoesAlone t t' (kind_of image p s') did → DoesAlone t t' (kind_of image p s) did
+alone_task image p s s' t t' did e d = subst (λ x. DoesAlone t t' (kind_of image p x) did) (sym e) d
+
+pub ok_task : (image : Image) (p : Pair) (s s' : Task) (regions : List Region) (t t' : Thread) (u u' : ℕ → Content) (r : Result Did NoMemory) → s ≡ s' → IfOk r (λ did. Does regions t t' u u' (kind_of image p s') did) → IfOk r (λ did. Does regions t t' u u' (kind_of image p s) did)
+ok_task image p s s' regions t t' u u' r e d = ok_as regions t t' u u' r (kind_of image p s') (kind_of image p s) (ap (λ x. kind_of image p x) e) d
 
 -- what changes nothing
 pub asks_alone : (t : Thread) (k : Kind Pair) → k ≡ Asks → DoesAlone t t k Call

@@ -23,3 +23,7 @@ past_kind image p t = rw t refl
 pub nothing_kind : (image : Image) (p : Pair) → (p.off == slice_index (sizes_of image) p.func) ≡ false → decoded (word_at image p) ≡ None → kind_at image p ≡ Illegal
 unfolding kind_at
 nothing_kind image p t e = rw (t, e) refl
+
+-- inside its function, a word without an instruction
+pub nothing_inside : (image : Image) (p : Pair) → p.off < slice_index (sizes_of image) p.func → decoded (word_at image p) ≡ None → kind_at image p ≡ Illegal
+nothing_inside image p lt e = nothing_kind image p (grind (arith, nat_tests)) e

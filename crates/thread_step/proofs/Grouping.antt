@@ -1,17 +1,14 @@
--- What the mnemonics of a group do.
-use Rattle.std.proofs.Common.{◌≡◌, ℕ, ℤ, ◌⊎◌, inl, inr, false, refl, arith}
+-- What mnemonics do, by their opcodes.
+use Rattle.std.proofs.Common.{◌≡◌, ℕ, ◌⊎◌, inl, inr, false, refl, arith}
 use Rattle.std.specs.Prelude.{IsTrue, ◌==◌, ◌||◌, ◌&&◌}
 use Rattle.std.proofs.lemmas.Bool.Decides.{nat_tests}
 use Rattle.rv_table.specs.Arithmetic.{compare_of, is_arithmetic, is_branch, is_load}
-use Rattle.rv_table.specs.Decoding.{made}
 use Rattle.rv_table.specs.Instruction.{row_of}
-use Rattle.rv_table.specs.Operands.{number_of_imm}
 use Rattle.rv_table.specs.declared.instructions.Instr.{Instr}
 use Rattle.rv_table.specs.declared.instructions.Op.{Op}
-use Rattle.rv_table.specs.declared.instructions.Op.TheVariants.{Auipc, Jal, Jalr, Beq, Bne, Blt, Bge, Bltu, Bgeu, Ecall, Ebreak}
-use Rattle.sh_machines.specs.Kind.{Sets, Computes, Loads, Stores, Atomics, Passes, Breaks, Illegal, opcode_of, plain_kind, stop_kind}
+use Rattle.rv_table.specs.declared.instructions.Op.TheVariants.{Beq, Bne, Blt, Bge, Bltu, Bgeu, Ebreak}
+use Rattle.sh_machines.specs.Kind.{Computes, Loads, Stores, Atomics, Breaks, Illegal, opcode_of, plain_kind, stop_kind}
 use Rattle.sh_types.specs.declared.code.Pair.{Pair}
-use Rattle.thread_step.specs.Grouped.{is_plain}
 
 immediate_kind : (i : Instr) → opcode_of i.op ≡ 0x13 → plain_kind {T = Pair} i ≡ Computes i
 unfolding plain_kind
@@ -43,13 +40,6 @@ computes_kind i h = elim (one_of (opcode_of i.op) h) [
   | inr (inr (inr d)) ↦ word_register_kind i d
 ]
 
-sets_by : (i : Instr) → opcode_of i.op ≡ 0x37 → plain_kind {T = Pair} i ≡ Sets i.rd (number_of_imm i.imm)
-unfolding plain_kind
-sets_by i e = rw e refl
-
-pub sets_kind : (i : Instr) → IsTrue (opcode_of i.op == 0x37) → plain_kind {T = Pair} i ≡ Sets i.rd (number_of_imm i.imm)
-sets_kind i h = sets_by i (opcode_is (opcode_of i.op) 0x37 h)
-
 loads_by : (i : Instr) → opcode_of i.op ≡ 0x03 → plain_kind {T = Pair} i ≡ Loads i
 unfolding plain_kind
 loads_by i e = rw e refl
@@ -70,31 +60,6 @@ atomics_by i e = rw e refl
 
 pub atomics_kind : (i : Instr) → IsTrue (opcode_of i.op == 0x2f) → plain_kind {T = Pair} i ≡ Atomics i
 atomics_kind i h = atomics_by i (opcode_is (opcode_of i.op) 0x2f h)
-
-passes_by : (i : Instr) → opcode_of i.op ≡ 0x0f → plain_kind {T = Pair} i ≡ Passes
-unfolding plain_kind
-passes_by i e = rw e refl
-
-pub passes_kind : (i : Instr) → IsTrue (opcode_of i.op == 0x0f) → plain_kind {T = Pair} i ≡ Passes
-passes_kind i h = passes_by i (opcode_is (opcode_of i.op) 0x0f h)
-
-other_by : (op : Op) (rd rs1 rs2 : ℕ) (imm : ℤ) → is_plain op ≡ false → plain_kind {T = Pair} (made op rd rs1 rs2 imm) ≡ Illegal
-unfolding plain_kind row_of
-other_by Auipc rd rs1 rs2 imm e = refl
-other_by Jal rd rs1 rs2 imm e = refl
-other_by Jalr rd rs1 rs2 imm e = refl
-other_by Beq rd rs1 rs2 imm e = refl
-other_by Bne rd rs1 rs2 imm e = refl
-other_by Blt rd rs1 rs2 imm e = refl
-other_by Bge rd rs1 rs2 imm e = refl
-other_by Bltu rd rs1 rs2 imm e = refl
-other_by Bgeu rd rs1 rs2 imm e = refl
-other_by Ecall rd rs1 rs2 imm e = refl
-other_by Ebreak rd rs1 rs2 imm e = refl
-other_by _ rd rs1 rs2 imm e = absurd (cc)
-
-pub other_kind : (i : Instr) → is_plain i.op ≡ false → plain_kind {T = Pair} i ≡ Illegal
-other_kind i e = other_by i.op i.rd i.rs1 i.rs2 i.imm e
 
 -- what is no branch is never taken
 pub never_taken : (op : Op) (a b : ℕ) → is_branch op ≡ false → compare_of op a b ≡ false

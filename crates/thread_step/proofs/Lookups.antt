@@ -1,8 +1,11 @@
 -- What is looked up in the code of an image.
-use Rattle.std.proofs.Common.{◌≡◌, ℕ, zero, suc, ◌+◌, ◌/◌, ◌<◌, ◌≤◌, ◌^◌, ◌⊎◌, inl, inr, Bool, true, false, Some, List, [], ◌∷◌, length, get_or, map, refl, sym, ap, ◌∙◌, arith}
-use Rattle.std.specs.Prelude.{◌==◌, slice_get, slice_index, slice_index_or}
+use Rattle.std.proofs.Common.{◌≡◌, ℕ, zero, suc, ◌+◌, ◌*◌, ◌/◌, ◌%◌, ◌<◌, ◌≤◌, ◌^◌, ◌⊎◌, inl, inr, Bool, true, false, Option, Some, None, List, [], ◌∷◌, length, get_or, map, refl, sym, ap, ◌∙◌, subst, arith}
+use Rattle.std.specs.Prelude.{◌==◌, IfSome, slice_get, slice_index, slice_index_or}
+use Rattle.std.specs.Slice.{IsItemAt}
+use denote.Ref.{Bor}
 use Rattle.std.proofs.lemmas.Bool.Decides.{nat_tests}
-use Rattle.std.proofs.lemmas.List.{get_or-map, get_or_past, length-map}
+use Rattle.std.proofs.lemmas.Option.{IfSome_then}
+use Rattle.std.proofs.lemmas.List.{get_or-map, get_or_past, get_or_read, length-map}
 use Rattle.sh_machines.specs.Copy.{literal_number}
 use Rattle.sh_machines.specs.Fine.{IsFine}
 use Rattle.sh_machines.specs.Tokens.{AreInOrder}
@@ -10,9 +13,14 @@ use Rattle.sh_types.specs.declared.code.Function.{Function}
 use Rattle.sh_types.specs.declared.code.Image.{Image}
 use Rattle.sh_types.specs.declared.code.Pair.{Pair}
 use Rattle.sh_types.specs.Image.{sizes_of}
+use Rattle.sh_types.specs.Place.{pair}
 use Rattle.sh_types.specs.Sized.{IsSized, total}
 use Rattle.token_ways.specs.Labels.{RisesByFunc}
-use Rattle.thread_step.specs.Numbered.{AreNumbered, IsCode, IsWorded}
+use Rattle.thread_step.specs.Listed.{AreListed, AreTasks, IsCode, StandsAt}
+use Rattle.thread_step.specs.Numbered.{AreNumbered, IsNumbered, IsWorded}
+use Rattle.thread_step.specs.Task.{IsTask}
+use Rattle.thread_step.specs.declared.tasks.Task.{Task}
+use Rattle.thread_step.specs.declared.tasks.Task.TheVariants.{Illegal}
 
 -- ---- sizes
 
@@ -50,10 +58,46 @@ next_fits sizes f o s lt = omega (arith, lt, size_below sizes f, s.fits)
 
 -- ---- literals
 
-pub number_found : (image : Image) (numbers : List (List ℕ)) (f o : ℕ) → IsCode image numbers → o < slice_index (sizes_of image) f → slice_index (slice_index_or numbers f []) (o / 4) ≡ literal_number image f (o / 4)
-number_found image numbers f o c lt =
-    let whole = c.sized.whole f in
-    (c.listed.each f (has_bytes (sizes_of image) f o lt)).each (o / 4) (omega (arith, lt, whole))
+pub number_found : (image : Image) (numbers : List (List ℕ)) (f o : ℕ) → IsNumbered image numbers → o < slice_index (sizes_of image) f → slice_index (slice_index_or numbers f []) (o / 4) ≡ literal_number image f (o / 4)
+number_found image numbers f o n lt =
+    let whole = n.sized.whole f in
+    (n.listed.each f (has_bytes (sizes_of image) f o lt)).each (o / 4) (omega (arith, lt, whole))
+
+-- ---- tasks
+
+-- what is lent of a list is the element there
+lent : {X : Type 0} (xs : List X) (i : ℕ) (d : X) (o : Option (Bor X)) → IsItemAt xs i o → IfSome o (λ x. (i < length xs) × (x.now ≡ get_or xs i d))
+lent xs i d None h = tt
+lent xs i d (Some x) h = (h.3.0, get_or_read xs i x.now h.3.0 h.1 d)
+
+-- what is lent of the list of a pair's function stands at the pair
+pub stands : (tasks : List (List Task)) (list list' : List Task) (p : Pair) (o : Option (Bor Task)) → p.off % 4 ≡ 0 → p.func < length tasks → list ≡ get_or tasks p.func list → list' ≡ list → IsItemAt list' (p.off / 4) o → IfSome o (λ t. StandsAt tasks p t.now)
+stands tasks list list' p o whole func e e' h =
+    let same : list' ≡ slice_index_or tasks p.func [] = e' ∙ get_or_read tasks p.func list func e [] in
+    IfSome_then o (lent list' (p.off / 4) Illegal o h) (λ t s. record {
+      whole = whole;
+      func = func;
+      inside = omega (arith, s.0, ap length same);
+      is = s.1 ∙ ap (λ xs. get_or xs (p.off / 4) Illegal) same;
+    })
+
+-- the task that stands at a pair is that of its word; the image and the lists may be given otherwise
+pub listed_task : (image image' : Image) (tasks tasks' : List (List Task)) (p : Pair) (t : Task) → tasks' ≡ tasks → image ≡ image' → AreListed image (length (sizes_of image)) tasks → StandsAt tasks' p t → IsTask image' p t
+listed_task image image' tasks tasks' p t et ei l s' =
+    let s : StandsAt tasks p t = subst (λ ts. StandsAt ts p t) et s' in
+    let here : AreTasks image p.func (slice_index (sizes_of image) p.func / 4) (slice_index_or tasks p.func []) = l.each p.func (omega (arith, s.func, l.many)) in
+    let found : IsTask image (pair p.func (4 * (p.off / 4))) (slice_index_or (slice_index_or tasks p.func []) (p.off / 4) Illegal) = here.each (p.off / 4) (omega (arith, s.inside, here.many)) in
+    let whole : 4 * (p.off / 4) ≡ p.off = omega (arith, s.whole) in
+    subst (λ i. IsTask i p t) ei
+    (subst (λ x. IsTask image p x) (sym s.is)
+    (subst (λ o. IsTask image (pair p.func o) (slice_index_or (slice_index_or tasks p.func []) (p.off / 4) Illegal)) whole found))
+
+-- and the next word's offset fits
+pub listed_next : (image : Image) (tasks tasks' : List (List Task)) (p : Pair) (t : Task) → tasks' ≡ tasks → IsSized (sizes_of image) → AreListed image (length (sizes_of image)) tasks → StandsAt tasks' p t → p.off + 4 < 2 ^ 32
+listed_next image tasks tasks' p t e sized l s' =
+    let s : StandsAt tasks p t = subst (λ ts. StandsAt ts p t) e s' in
+    let here : AreTasks image p.func (slice_index (sizes_of image) p.func / 4) (slice_index_or tasks p.func []) = l.each p.func (omega (arith, s.func, l.many)) in
+    next_fits (sizes_of image) p.func p.off sized (omega (arith, s.whole, s.inside, here.many))
 
 -- ---- the whole
 
@@ -73,12 +117,14 @@ labels_rise sizes rows labels are i j p q le ep eq = by (i == j) refl
         omega (arith, f)
     by false e = let lt : i < j = grind (arith, nat_tests) in low (are.labels_rise i j p q lt ep eq)
 
-pub code_is : (image : Image) (numbers : List (List ℕ)) → IsFine image → IsSized (sizes_of image) → IsWorded image → AreNumbered image (length (sizes_of image)) numbers → IsCode image numbers
-code_is image numbers fine sized worded listed =
+pub numbered_is : (image : Image) (numbers : List (List ℕ)) → IsSized (sizes_of image) → IsWorded image → AreNumbered image (length (sizes_of image)) numbers → IsNumbered image numbers
+numbered_is image numbers sized worded listed = record { sized = sized; worded = worded; listed = listed }
+
+pub code_is : (image : Image) (numbers : List (List ℕ)) (tasks : List (List Task)) → IsFine image → IsNumbered image numbers → AreListed image (length (sizes_of image)) tasks → IsCode image numbers tasks
+code_is image numbers tasks fine numbered tasked =
     record {
       rows = fine.ordered.rows_rise;
       labels = labels_rise (sizes_of image) image.rows image.labels fine.ordered;
-      sized = sized;
-      worded = worded;
-      listed = listed;
+      numbered = numbered;
+      tasked = tasked;
     }

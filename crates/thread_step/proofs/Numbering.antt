@@ -1,6 +1,6 @@
 -- The numbers that words have as literals, word by word.
-use Rattle.std.proofs.Common.{◌≡◌, ℕ, zero, suc, ◌+◌, ◌-◌, ◌*◌, ◌/◌, ◌^◌, ◌<◌, ◌≤◌, Bool, true, false, Option, List, [], ◌∷◌, ◌++◌, length, length-append, get_or, refl, sym, ap, ◌∙◌, subst, arith, add-one}
-use Rattle.std.specs.Prelude.{◌==◌, slice_index, slice_index_or, if◌then◌else◌}
+use Rattle.std.proofs.Common.{◌≡◌, ℕ, zero, suc, ◌+◌, ◌-◌, ◌*◌, ◌/◌, ◌^◌, ◌<◌, ◌≤◌, Bool, true, false, Option, List, [], ◌∷◌, ◌++◌, length, length-append, get_or, refl, sym, ap, ◌∙◌, arith, add-one}
+use Rattle.std.specs.Prelude.{◌==◌, slice_index, if◌then◌else◌}
 use Rattle.std.proofs.Math.ListN.{get_or-append}
 use Rattle.std.proofs.Math.Seq.{get_or-append_seam}
 use Rattle.std.proofs.lemmas.Bool.Decides.{nat_tests}
@@ -86,24 +86,6 @@ numbers_more image f i x numbers a e =
 
 pub numbered_none : (image : Image) → AreNumbered image 0 []
 numbered_none image = record { many = refl; each = λ f h. absurd (omega (arith, h)) }
-
-pub numbered_more : (image : Image) (n : ℕ) (numbers : List ℕ) (all : List (List ℕ)) → AreNumbered image n all → AreNumbers image n (slice_index (sizes_of image) n / 4) numbers → AreNumbered image (n + 1) (all ++ numbers ∷ [])
-numbered_more image n numbers all a here =
-    record {
-      many = omega (arith, length-append all (numbers ∷ []), a.many);
-      each = λ f h. by f h (f == n) refl;
-    }
-  where
-    by : (f : ℕ) → f < n + 1 → (b : Bool) → (f == n) ≡ b → AreNumbers image f (slice_index (sizes_of image) f / 4) (slice_index_or (all ++ numbers ∷ []) f [])
-    by f h true t =
-        let k : f ≡ n = grind (arith, nat_tests) in
-        let at : get_or (all ++ numbers ∷ []) n [] ≡ numbers = ap (λ m. get_or (all ++ numbers ∷ []) m []) (sym a.many) ∙ get_or-append_seam all numbers [] [] in
-        subst (λ g. AreNumbers image g (slice_index (sizes_of image) g / 4) (get_or (all ++ numbers ∷ []) g [])) (sym k)
-        (subst (λ ns. AreNumbers image n (slice_index (sizes_of image) n / 4) ns) (sym at) here)
-    by f h false t =
-        let lt : f < n = grind (arith, nat_tests) in
-        let at : get_or (all ++ numbers ∷ []) f [] ≡ get_or all f [] = get_or-append all (numbers ∷ []) [] f (omega (arith, lt, a.many)) in
-        subst (λ ns. AreNumbers image f (slice_index (sizes_of image) f / 4) ns) (sym at) (a.each f lt)
 
 pub sizes_many : (image : Image) → length (sizes_of image) ≡ length image.functions
 unfolding sizes_of

@@ -1,6 +1,5 @@
 -- The registers that an instruction names, and a word without an instruction.
-use Rattle.std.proofs.Common.{◌≡◌, ℕ, Option, Some, None, refl, arith}
-use Rattle.std.specs.Prelude.{IfSome}
+use Rattle.std.proofs.Common.{◌≡◌, ℕ, None, refl, arith}
 use Rattle.rv_table.specs.Decoding.{decoded, op_in}
 use Rattle.rv_table.specs.Instruction.{row_of, FieldsFit, Encodes}
 use Rattle.rv_table.specs.declared.instructions.Instr.{Instr}
@@ -25,15 +24,6 @@ registers_fit i Whole f = record { rd = omega arith; rs1 = omega arith; rs2 = om
 -- an instruction of a word names registers
 pub names_registers : (i : Instr) (w : ℕ) → Encodes i w → NamesRegisters i
 names_registers i w h = registers_fit i (row_of i.op).form h.fits
-
-pub registers_if : (o : Option Instr) (w : ℕ) → IfSome o (λ i. Encodes i w) → IfSome o (λ i. NamesRegisters i)
-registers_if None w h = tt
-registers_if (Some i) w h = names_registers i w h
-
--- what holds anyway holds where there is a value
-pub anyway : (o : Option Instr) (P : Type 0) → P → IfSome o (λ i. P)
-anyway None P h = tt
-anyway (Some i) P h = h
 
 -- where no word is, there is no instruction
 pub zero_decoded : decoded 0 ≡ None

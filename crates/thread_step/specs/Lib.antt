@@ -1,4 +1,5 @@
 pub mod Doing
 pub mod Framed
-pub mod Grouped
+pub mod Listed
 pub mod Numbered
+pub mod Task

@@ -4,8 +4,6 @@ use Rattle.sh_machines.specs.Copy.{literal_number}
 use Rattle.sh_types.specs.declared.code.Image.{Image}
 use Rattle.sh_types.specs.Image.{sizes_of}
 use Rattle.sh_types.specs.Sized.{IsSized}
-use Rattle.token_lookup.specs.Rising.{Rises}
-use Rattle.token_ways.specs.Labels.{RisesByFunc}
 
 -- each function has the words that its size says
 abbrev pub IsWorded : Image → Type 0
@@ -21,10 +19,8 @@ pub record AreNumbered (image : Image) (n : ℕ) (numbers : List (List ℕ)) : T
   pub many : length numbers ≡ n
   pub each : (f : ℕ) → f < n → AreNumbers image f (slice_index (sizes_of image) f / 4) (slice_index_or numbers f [])
 
--- an image that can be looked up, with its numbers
-pub record IsCode (image : Image) (numbers : List (List ℕ)) : Type 0 where
-  pub rows : Rises image.rows
-  pub labels : RisesByFunc image.labels
+-- an image whose words can be looked up, with its numbers
+pub record IsNumbered (image : Image) (numbers : List (List ℕ)) : Type 0 where
   pub sized : IsSized (sizes_of image)
   pub worded : IsWorded image
   pub listed : AreNumbered image (length (sizes_of image)) numbers

@@ -1,42 +1,48 @@
-//! Words of the other classes: literals, jumps, branches, calls, returns and what ends a run.
-ghost use Rattle.std.specs.Prelude.{◌≡◌, ◌≢◌, ◌+◌, ◌<◌, ◌^◌, ◌&&◌, false, slice_index};
+//! What tasks that touch no word of memory do: numbers, jumps, branches and calls.
+ghost use Rattle.std.specs.Prelude.{◌≡◌, ◌+◌, ◌<◌, ◌^◌, ◌&&◌, IsTrue, false};
 ghost use Rattle.rv_operands.specs.Registers.{NamesRegisters};
 ghost use Rattle.rv_table.specs.Arithmetic.{is_branch};
 ghost use Rattle.rv_table.specs.Operands.{both_ra as both_ra_of};
-ghost use Rattle.sh_machines.specs.Kind.{Branches, CallsThrough, CallsTo, JumpsThrough, JumpsTo, Sets, literal_of, site_kind, stop_kind};
+ghost use Rattle.sh_machines.specs.Kind.{Branches, CallsThrough, CallsTo, JumpsThrough, JumpsTo, Passes, Sets};
 ghost use Rattle.sh_machines.specs.Tokens.{call_way, tail_way};
 ghost use Rattle.sh_machines.specs.Unmoved.{is_return};
-ghost use Rattle.sh_types.specs.Image.{sizes_of};
 ghost use Rattle.sh_types.specs.Place.{pair};
 ghost use Rattle.sh_types.specs.declared.code.Pair.{Pair};
 ghost use Rattle.thread_step.specs.Doing.{DoesAlone};
 
-use crate::answers::trapped;
 use crate::code::Code;
 use rv_operands::both_ra;
-use rv_table::{Instr, Op};
-use sh_types::{Pair, Site, Trap};
+use rv_table::Instr;
+use sh_types::Pair;
 use thread_acts::{
-    Did, Thread, branches, calls_through, calls_to, goes_back, jumps_through, jumps_to, passes,
-    sets,
+    Did, Thread, branches, calls_through, calls_to, jumps_through, jumps_to, passes, sets,
 };
 use token_ways::jump_number;
 
-/// An AUIPC: rd gets the number of its literal.
-fn literal(code: &Code, thread: &mut Thread, rd: u8) -> Did
+/// A number goes to a register.
+#[inline(always)]
+pub fn set_number(thread: &mut Thread, rd: u8, value: u64) -> Did
     requires rd { rd < 32 }
-    requires inside { thread.old.at.off < slice_index (sizes_of code.now) thread.old.at.func }
     requires off { thread.old.at.off + 4 < 2 ^ 32 }
-    ensures { DoesAlone thread.old thread.new (Sets rd (literal_of code.now thread.old.at)) result }
+    ensures { DoesAlone thread.old thread.new (Sets rd value) result }
 {
-    let value = code.literal_at(thread.at);
     sets(thread, rd, value);
+    Did::Went { stored: None }
+}
+
+/// Nothing is done.
+#[inline(always)]
+pub fn pass(thread: &mut Thread) -> Did
+    requires { thread.old.at.off + 4 < 2 ^ 32 }
+    ensures { DoesAlone thread.old thread.new Passes result }
+{
+    passes(thread);
     Did::Went { stored: None }
 }
 
 /// A jump to a pair.
 #[inline(always)]
-fn jump(thread: &mut Thread, func: u32, off: u32) -> Did
+pub fn jump(thread: &mut Thread, func: u32, off: u32) -> Did
     ensures { DoesAlone thread.old thread.new (JumpsTo (pair func off)) result }
 {
     jumps_to(thread, Pair { func, off });
@@ -44,12 +50,28 @@ fn jump(thread: &mut Thread, func: u32, off: u32) -> Did
 }
 
 /// A call of a function.
-fn call(thread: &mut Thread, func: u32) -> Did
+#[inline(always)]
+pub fn call(thread: &mut Thread, func: u32) -> Did
     requires { thread.old.at.off + 4 < 2 ^ 32 }
     ensures { DoesAlone thread.old thread.new (CallsTo (pair func 0)) result }
 {
     calls_to(thread, Pair { func, off: 0 });
     Did::Went { stored: None }
+}
+
+/// A branch to an offset of its function.
+#[inline(always)]
+pub fn branch_to(thread: &mut Thread, instr: Instr, off: u32) -> Did
+    requires registers { NamesRegisters instr }
+    requires off { thread.old.at.off + 4 < 2 ^ 32 }
+    requires branch { IsTrue (is_branch instr.op) }
+    ensures { DoesAlone thread.old thread.new (Branches instr (pair thread.old.at.func off)) result }
+{
+    let to = Pair {
+        func: thread.at.func,
+        off,
+    };
+    branches(thread, instr, to)
 }
 
 /// Whether an instruction of two registers would read a return address.
@@ -61,7 +83,7 @@ fn leaks(thread: &Thread, instr: &Instr) -> bool
 
 /// A word of a branch's class whose mnemonic compares nothing. No path comes to one; it is never taken.
 #[cold]
-fn untaken(thread: &mut Thread, instr: Instr) -> Did
+pub fn untaken(thread: &mut Thread, instr: Instr) -> Did
     requires off { thread.old.at.off + 4 < 2 ^ 32 }
     requires other { is_branch instr.op ≡ false }
     ensures { (to : Pair) → DoesAlone thread.old thread.new (Branches instr to) result }
@@ -73,79 +95,23 @@ fn untaken(thread: &mut Thread, instr: Instr) -> Did
     Did::Went { stored: None }
 }
 
-/// A branch to an offset of its function.
-#[inline(always)]
-#[tactic(auto, unfolding(rv_table::specs::Instruction::row_of))]
-fn inner_branch(thread: &mut Thread, instr: Instr, off: u32) -> Did
-    requires registers { NamesRegisters instr }
-    requires off { thread.old.at.off + 4 < 2 ^ 32 }
-    ensures { DoesAlone thread.old thread.new (Branches instr (pair thread.old.at.func off)) result }
-{
-    let to = Pair {
-        func: thread.at.func,
-        off,
-    };
-    match instr.op {
-        Op::Beq | Op::Bne | Op::Blt | Op::Bge | Op::Bltu | Op::Bgeu => branches(thread, instr, to),
-        _ => untaken(thread, instr),
-    }
-}
-
 /// A call by the number that a register and an immediate make.
-fn indirect_call(code: &Code, thread: &mut Thread, instr: Instr) -> Did
-    requires registers { NamesRegisters instr }
+pub fn indirect_call(code: &Code, thread: &mut Thread, rs1: u8, imm: i64) -> Did
+    requires register { rs1 < 32 }
     requires off { thread.old.at.off + 4 < 2 ^ 32 }
-    ensures { DoesAlone thread.old thread.new (CallsThrough instr.rs1 instr.imm (call_way code.now.rows)) result }
+    ensures { DoesAlone thread.old thread.new (CallsThrough rs1 imm (call_way code.now.rows)) result }
 {
-    let number = jump_number(thread.regs[instr.rs1 as usize], instr.imm);
+    let number = jump_number(thread.regs[rs1 as usize], imm);
     let to = code.call_way(number);
-    calls_through(thread, instr.rs1, number, to)
+    calls_through(thread, rs1, number, to)
 }
 
 /// A jump by the number that a register and an immediate make.
-fn indirect_jump(code: &Code, thread: &mut Thread, instr: Instr) -> Did
-    requires registers { NamesRegisters instr }
-    ensures { DoesAlone thread.old thread.new (JumpsThrough instr.rs1 instr.imm (tail_way code.now.rows code.now.labels thread.old.at.func)) result }
+pub fn indirect_jump(code: &Code, thread: &mut Thread, rs1: u8, imm: i64) -> Did
+    requires register { rs1 < 32 }
+    ensures { DoesAlone thread.old thread.new (JumpsThrough rs1 imm (tail_way code.now.rows code.now.labels thread.old.at.func)) result }
 {
-    let number = jump_number(thread.regs[instr.rs1 as usize], instr.imm);
+    let number = jump_number(thread.regs[rs1 as usize], imm);
     let to = code.tail_way(thread.at.func, number);
-    jumps_through(thread, instr.rs1, number, to)
-}
-
-/// A breakpoint, or no instruction.
-fn stop(op: Op) -> Did
-    ensures { (thread : Thread) (instr : Instr) → instr.op ≡ op → DoesAlone thread thread (stop_kind instr) result }
-{
-    match op {
-        Op::Ebreak => trapped(Trap::Breakpoint),
-        _ => trapped(Trap::Illegal),
-    }
-}
-
-/// A word of a class that is not Plain.
-#[inline(always)]
-pub fn control(code: &Code, site: Site, thread: &mut Thread, instr: Instr) -> Did
-    requires class { site ≢ Site.Plain }
-    requires registers { NamesRegisters instr }
-    requires inside { thread.old.at.off < slice_index (sizes_of code.now) thread.old.at.func }
-    requires off { thread.old.at.off + 4 < 2 ^ 32 }
-    ensures { DoesAlone thread.old thread.new (site_kind code.now thread.old.at site instr) result }
-{
-    match site {
-        Site::Plain => unreachable!(),
-        Site::Literal => literal(code, thread, instr.rd),
-        Site::InnerJump { to } => {
-            let func = thread.at.func;
-            jump(thread, func, to)
-        }
-        Site::InnerBranch { to } => inner_branch(thread, instr, to),
-        Site::DirectCall { func } => call(thread, func),
-        Site::DirectTail { func } => jump(thread, func, 0),
-        Site::IndirectCall => indirect_call(code, thread, instr),
-        Site::IndirectTail => indirect_jump(code, thread, instr),
-        Site::ReturnLike => goes_back(thread),
-        Site::Environment => Did::Call,
-        Site::Stop => stop(instr.op),
-        Site::Bad { .. } => trapped(Trap::Illegal),
-    }
+    jumps_through(thread, rs1, number, to)
 }

@@ -1,22 +1,20 @@
-//! Words of the class Plain. By the frame's state `sd ra,k(sp)` can be a save and `ld ra,k(sp)` a restore (RISC-V psABI,
-//! "Integer Calling Convention": ra is x1, sp is x2).
-ghost use Rattle.std.specs.Prelude.{◌≡◌, ◌+◌, ◌<◌, ◌^◌, IfOk, OnErr, true};
+//! The tasks of words of the class Plain. By the frame's state `sd ra,k(sp)` can be a save and `ld ra,k(sp)` a restore
+//! (RISC-V psABI, "Integer Calling Convention": ra is x1, sp is x2).
+ghost use Rattle.std.specs.Prelude.{◌≡◌, true};
 ghost use Rattle.rv_operands.specs.Registers.{NamesRegisters};
 ghost use Rattle.sh_machines.specs.Copy.{is_slot_at as is_slot_at_of};
 ghost use Rattle.sh_machines.specs.Kind.{framed_kind};
-ghost use Rattle.sh_types.specs.Image.{row_at};
-ghost use Rattle.thread_step.specs.Doing.{Does};
+ghost use Rattle.sh_types.specs.declared.code.Image.{Image};
+ghost use Rattle.sh_types.specs.declared.code.Pair.{Pair};
 ghost use Rattle.thread_step.specs.Framed.{is_in_ra as is_in_ra_of, is_saved_at as is_saved_at_of, loads_ra as loads_ra_of, stores_ra as stores_ra_of};
+ghost use Rattle.thread_step.specs.Task.{IsDoable, kind_of};
 
-use crate::code::Code;
 use crate::plain::plain;
-use plain_memory::Contents;
+use crate::tasks::Task;
 use rv_table::{Instr, Op};
-use sh_types::{FrameState, NoMemory, RaPlace};
-use thread_acts::{Did, Thread, loads, restores, saves, stores};
+use sh_types::{FrameState, RaPlace};
 
 /// Whether the instruction is `sd ra,k(sp)`.
-#[inline(always)]
 fn stores_ra(instr: Instr) -> bool
     ensures { result ≡ stores_ra_of instr }
 {
@@ -24,7 +22,6 @@ fn stores_ra(instr: Instr) -> bool
 }
 
 /// Whether the instruction is `ld ra,k(sp)`.
-#[inline(always)]
 fn loads_ra(instr: Instr) -> bool
     ensures { result ≡ loads_ra_of instr }
 {
@@ -64,66 +61,45 @@ fn is_saved_at(above: i64, row: Option<FrameState>) -> bool
 }
 
 /// `sd ra,k(sp)`: a save where the return address is in ra, else a store.
-fn save_or_store<M: Contents>(
-    code: &Code,
-    thread: &mut Thread,
-    instr: Instr,
-    memory: &mut M,
-) -> Result<Did, NoMemory>
+fn save_or_store(row: Option<FrameState>, instr: Instr) -> Task
     requires registers { NamesRegisters instr }
-    requires off { thread.old.at.off + 4 < 2 ^ 32 }
     requires instr { stores_ra_of instr ≡ true }
-    ensures done { IfOk result (λ did. Does (M.regions memory.old) thread.old thread.new (M.contents memory.old) (M.contents memory.new) (framed_kind (row_at code.now thread.old.at) instr) did) }
-    ensures regions { M.regions memory.new ≡ M.regions memory.old }
-    ensures err { OnErr result ((thread.new ≡ thread.old) × (M.contents memory.new ≡ M.contents memory.old)) }
+    ensures kind { (image : Image) (p : Pair) → kind_of image p result ≡ framed_kind row instr }
+    ensures doable { IsDoable result }
 {
-    if is_in_ra(code.row_at(thread.at)) {
-        saves(thread, instr.imm, memory)
+    if is_in_ra(row) {
+        Task::Saves { imm: instr.imm }
     } else {
-        Ok(stores(thread, instr, memory))
+        Task::Stores { instr }
     }
 }
 
 /// `ld ra,k(sp)`: a restore of the word where the return address was saved, else a load.
 #[tactic(auto, using(crate::proofs::Framing::is_loading))]
-fn restore_or_load<M: Contents>(
-    code: &Code,
-    thread: &mut Thread,
-    instr: Instr,
-    memory: &mut M,
-) -> Did
+fn restore_or_load(row: Option<FrameState>, instr: Instr) -> Task
     requires registers { NamesRegisters instr }
-    requires off { thread.old.at.off + 4 < 2 ^ 32 }
     requires instr { loads_ra_of instr ≡ true }
-    ensures done { Does (M.regions memory.old) thread.old thread.new (M.contents memory.old) (M.contents memory.new) (framed_kind (row_at code.now thread.old.at) instr) result }
-    ensures regions { M.regions memory.new ≡ M.regions memory.old }
+    ensures kind { (image : Image) (p : Pair) → kind_of image p result ≡ framed_kind row instr }
+    ensures doable { IsDoable result }
 {
-    if is_saved_at(instr.imm, code.row_at(thread.at)) {
-        restores(thread, instr.imm, memory)
+    if is_saved_at(instr.imm, row) {
+        Task::Restores { imm: instr.imm }
     } else {
-        loads(thread, instr, memory)
+        Task::Loads { instr }
     }
 }
 
-/// A word of the class Plain. The frame's state is looked up only for the two that it decides.
-#[inline(always)]
-pub fn framed<M: Contents>(
-    code: &Code,
-    thread: &mut Thread,
-    instr: Instr,
-    memory: &mut M,
-) -> Result<Did, NoMemory>
-    requires registers { NamesRegisters instr }
-    requires off { thread.old.at.off + 4 < 2 ^ 32 }
-    ensures done { IfOk result (λ did. Does (M.regions memory.old) thread.old thread.new (M.contents memory.old) (M.contents memory.new) (framed_kind (row_at code.now thread.old.at) instr) did) }
-    ensures regions { M.regions memory.new ≡ M.regions memory.old }
-    ensures err { OnErr result ((thread.new ≡ thread.old) × (M.contents memory.new ≡ M.contents memory.old)) }
+/// A word of the class Plain, in a frame of this state.
+pub fn framed(row: Option<FrameState>, instr: Instr) -> Task
+    requires { NamesRegisters instr }
+    ensures kind { (image : Image) (p : Pair) → kind_of image p result ≡ framed_kind row instr }
+    ensures doable { IsDoable result }
 {
     if stores_ra(instr) {
-        save_or_store(code, thread, instr, memory)
+        save_or_store(row, instr)
     } else if loads_ra(instr) {
-        Ok(restore_or_load(code, thread, instr, memory))
+        restore_or_load(row, instr)
     } else {
-        Ok(plain(thread, instr, memory))
+        plain(instr)
     }
 }

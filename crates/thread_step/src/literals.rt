@@ -1,12 +1,13 @@
 //! For each word of an image the number that it has as a literal.
 ghost use Rattle.std.specs.Prelude.{◌≡◌, ◌+◌, ◌/◌, ◌<◌, ◌≤◌, IfOk, length, slice_index};
 ghost use Rattle.sh_machines.specs.Copy.{literals_below};
+ghost use Rattle.sh_machines.specs.Kind.{literal_of};
 ghost use Rattle.sh_types.specs.Image.{sizes_of};
 ghost use Rattle.sh_types.specs.Limits.{most_literals};
 ghost use Rattle.sh_types.specs.Sized.{IsSized};
-ghost use Rattle.thread_step.specs.Numbered.{AreNumbered, AreNumbers};
+ghost use Rattle.thread_step.specs.Numbered.{AreNumbered, AreNumbers, IsNumbered};
 
-use crate::reading::{is_literal, row, site, size};
+use crate::reading::{is_literal, number, row, site, size};
 use sh_types::{Image, Items, Pair};
 use std::alloc::{AllocError, Global};
 
@@ -58,4 +59,21 @@ pub fn literal_numbers(alloc: Global, image: &Image) -> Result<Items<Items<u32>>
         first = next;
     }
     Ok(Items::from_vec(all))
+}
+
+/// The number that an AUIPC at a word of a function puts into its register; `numbers` are those that words have as
+/// literals.
+#[tactic(auto, using(crate::proofs::Lookups::number_found))]
+pub fn literal_at(image: &Image, numbers: &[Items<u32>], at: Pair) -> u64
+    requires numbered { IsNumbered image.now numbers.now }
+    requires inside { at.off < slice_index (sizes_of image.now) at.func }
+    ensures { result ≡ literal_of image.now at }
+{
+    let number = number(numbers, at);
+    image
+        .literals
+        .as_slice()
+        .get(number as usize)
+        .copied()
+        .unwrap_or(0)
 }

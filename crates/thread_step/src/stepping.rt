@@ -1,22 +1,19 @@
-//! One instruction, by its class.
-ghost use Rattle.std.specs.Prelude.{◌≡◌, ◌+◌, ◌<◌, ◌^◌, IfOk, None, OnErr, slice_index};
-ghost use Rattle.rv_operands.specs.Registers.{NamesRegisters};
+//! One instruction, by its task.
+ghost use Rattle.std.specs.Prelude.{◌≡◌, IfOk, None, OnErr};
 ghost use Rattle.rv_table.specs.Decoding.{decoded};
-ghost use Rattle.sh_machines.specs.Kind.{kind_at, site_kind};
+ghost use Rattle.sh_machines.specs.Kind.{kind_at};
 ghost use Rattle.sh_machines.specs.Need.{answered};
 ghost use Rattle.sh_machines.specs.Unmoved.{thread_does};
-ghost use Rattle.sh_types.specs.Image.{sizes_of, word_at};
+ghost use Rattle.sh_types.specs.Image.{word_at};
 ghost use Rattle.thread_acts.specs.Done.{IsDone, meant};
 ghost use Rattle.thread_acts.specs.declared.threads.Thread.{Thread};
 ghost use Rattle.thread_step.specs.Doing.{Does, DoesAlone};
 
 use crate::answers::trapped;
 use crate::code::Code;
-use crate::control::control;
-use crate::frames::framed;
+use crate::doing::does;
 use plain_memory::Contents;
-use rv_table::Instr;
-use sh_types::{NoMemory, Pair, Site, Trap};
+use sh_types::{NoMemory, Pair, Trap};
 use thread_acts::{Did, Thread};
 
 /// What comes of a pair that has no instruction: behind the last word of its function, or anywhere else.
@@ -32,38 +29,34 @@ fn nothing_at(code: &Code, at: Pair) -> Did
     }
 }
 
-/// The instruction of a word of this class.
-#[inline(always)]
-fn by_class<M: Contents>(
-    code: &Code,
-    site: Site,
-    thread: &mut Thread,
-    instr: Instr,
-    memory: &mut M,
-) -> Result<Did, NoMemory>
-    requires registers { NamesRegisters instr }
-    requires inside { thread.old.at.off < slice_index (sizes_of code.now) thread.old.at.func }
-    requires off { thread.old.at.off + 4 < 2 ^ 32 }
-    ensures done { IfOk result (λ did. Does (M.regions memory.old) thread.old thread.new (M.contents memory.old) (M.contents memory.new) (site_kind code.now thread.old.at site instr) did) }
-    ensures regions { M.regions memory.new ≡ M.regions memory.old }
-    ensures err { OnErr result ((thread.new ≡ thread.old) × (M.contents memory.new ≡ M.contents memory.old)) }
-{
-    match site {
-        Site::Plain => framed(code, thread, instr, memory),
-        _ => Ok(control(code, site, thread, instr)),
-    }
-}
-
-/// One instruction of a hart: what the word at its pair does to the hart and to memory, and what comes of it. Where
-/// memory is refused, which only a save asks for, nothing has changed.
-pub fn step<M: Contents>(code: &Code, thread: &mut Thread, memory: &mut M) -> Result<Did, NoMemory>
-    ensures done { IfOk result (λ did. IsDone (answered (thread_does (M.regions memory.old) (meant thread.old) (kind_at code.now thread.old.at)) (M.contents memory.old)) thread.old thread.new (M.contents memory.old) (M.contents memory.new) did) }
+/// One instruction of a hart whose pair has no task in the lists: it is between words, or behind the last.
+#[cold]
+#[inline(never)]
+fn unlisted<M: Contents>(code: &Code, thread: &mut Thread, memory: &mut M) -> Result<Did, NoMemory>
+    ensures done { IfOk result (λ did. Does (M.regions memory.old) thread.old thread.new (M.contents memory.old) (M.contents memory.new) (kind_at code.now thread.old.at) did) }
     ensures regions { M.regions memory.new ≡ M.regions memory.old }
     ensures err { OnErr result ((thread.new ≡ thread.old) × (M.contents memory.new ≡ M.contents memory.old)) }
 {
     let at = thread.at;
     match code.instr_at(at) {
-        Some(instr) => by_class(code, code.site_at(at), thread, instr, memory),
+        Some(instr) => {
+            let task = code.task_of(at, instr);
+            does(code, thread, &task, memory)
+        }
         None => Ok(nothing_at(code, at)),
+    }
+}
+
+/// One instruction of a hart: what the word at its pair does to the hart and to memory, and what comes of it. Where
+/// memory is refused, which only a save asks for, nothing has changed.
+#[inline(always)]
+pub fn step<M: Contents>(code: &Code, thread: &mut Thread, memory: &mut M) -> Result<Did, NoMemory>
+    ensures done { IfOk result (λ did. IsDone (answered (thread_does (M.regions memory.old) (meant thread.old) (kind_at code.now thread.old.at)) (M.contents memory.old)) thread.old thread.new (M.contents memory.old) (M.contents memory.new) did) }
+    ensures regions { M.regions memory.new ≡ M.regions memory.old }
+    ensures err { OnErr result ((thread.new ≡ thread.old) × (M.contents memory.new ≡ M.contents memory.old)) }
+{
+    match code.listed_at(thread.at) {
+        Some(task) => does(code, thread, task, memory),
+        None => unlisted(code, thread, memory),
     }
 }

@@ -8,6 +8,6 @@ use Rattle.thread_step.proofs.control.indirect_call.Goals as goal
 
 pub returns : goal.returns
 returns c = λ regions u.
-    let fits : SFits w64 c.args.instr.imm = search rules in
-    let number = c.jump_number-number.ensures ∙ ap (jump_number (slice_index c.args.thread.now.regs c.args.instr.rs1)) (to_z-of_z w64 c.args.instr.imm fits) in
-    c.calls_through.ensures regions u c.args.instr.imm (call_way c.args.code.now.rows) number c.call_way-to.ensures
+    let fits : SFits w64 c.args.imm = search rules in
+    let number = c.jump_number-number.ensures ∙ ap (jump_number (slice_index c.args.thread.now.regs c.args.rs1)) (to_z-of_z w64 c.args.imm fits) in
+    c.calls_through.ensures regions u c.args.imm (call_way c.args.code.now.rows) number c.call_way-to.ensures
