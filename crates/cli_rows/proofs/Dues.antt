@@ -12,19 +12,22 @@ use Rattle.asm_text.specs.declared.faults.LineFault.{LineFault}
 use Rattle.rv_asm.specs.Object.{object_of}
 use Rattle.rv_asm.specs.Passes.{fault_of}
 use Rattle.elf_write.specs.Written.{elf_file}
+use Rattle.guest_text.specs.Guest.{guest_text}
 use Rattle.image_text.specs.Listing.{listing_of}
 use Rattle.sh_machines.specs.Unmoved.{Unmoved}
 use Rattle.shuf_machine.specs.Past.{Past, guest_of}
 use Rattle.cli_words.specs.declared.options.Opts.{Opts}
+use Rattle.cli_words.specs.Options.{default_opts}
 use Rattle.cli_words.specs.declared.words.Command.{Command}
-use Rattle.cli_words.specs.declared.words.Command.TheVariants.{Run, Plain, Check, Asm}
+use Rattle.cli_words.specs.declared.words.Command.TheVariants.{Run, Plain, Check, Asm, Demo, Help}
 use Rattle.cli_rows.specs.declared.due.Due.{Due}
+use Rattle.cli_rows.specs.Demo.{demo_input, demo_ran, line_on}
 use Rattle.cli_rows.specs.Dues.{line_due, text_due, store_due}
 use Rattle.cli_rows.specs.Lines.{usage_line}
 use Rattle.cli_rows.specs.declared.way.Way.TheVariants.{Moved}
 use Rattle.cli_rows.specs.declared.way.Way.TheVariants as way
 use Rattle.cli_rows.specs.Plain.{harts_of, left_by, plain_report, plain_due}
-use Rattle.cli_rows.specs.Rows.{Row, guest_due, row_of, comes_to, unless_refused, goes_on, with_input, unless_faulty}
+use Rattle.cli_rows.specs.Rows.{Row, demo_due, demo_file_due, guest_due, row_of, comes_to, unless_refused, goes_on, with_input, unless_faulty}
 use Rattle.cli_rows.specs.Run.{run_status, ended_due, past_of, seed_for, report_of, accepted_due}
 use Rattle.cli_rows.specs.Said.{DueIsSaid}
 use Rattle.cli_rows.proofs.Each.{EachDue, each}
@@ -32,7 +35,7 @@ use Rattle.cli_rows.proofs.Each.{EachDue, each}
 -- what is said of all lines, texts, stores and runs is said of all that the commands come to
 module _ (P : Due → Type 0) (lines : (line : List ℕ) → P (line_due 12 line)) (text : (t : List ℕ) → P (text_due t))
     (store : (name bytes : List ℕ) → P (store_due name bytes))
-    (ended : (out report : List ℕ) (end : Option End) (machine : Option Past) → P (ended_due out report end machine)) where
+    (ended : (out : List ℕ) (report : Option (List ℕ)) (end : Option End) (machine : Option Past) → P (ended_due out report end machine)) where
   of_refusal : (refusal : Option LoadFault) (due : Due) → P due → P (unless_refused refusal due)
   of_refusal None due p = p
   of_refusal (Some fault) due p = lines _
@@ -52,21 +55,30 @@ module _ (P : Due → Type 0) (lines : (line : List ℕ) → P (line_due 12 line
   of_run : (opts : Opts) (file input seed : List ℕ) → P (accepted_due opts file input seed)
   of_run opts file input seed =
       let m : Past = past_of opts (framed_image file) file input (seed_for opts seed) in
-      ended (guest_of m).output (report_of opts.period m) (guest_of m).end (Some m)
+      ended (guest_of m).output (Some (report_of opts.period m)) (guest_of m).end (Some m)
 
   of_plain : (opts : Opts) (file input : List ℕ) → P (plain_due opts (framed_image file) input)
   of_plain opts file input =
       let u : Unmoved = left_by opts (framed_image file) input in
-      ended u.output (plain_report (length (harts_of opts (framed_image file) input)) u.end) u.end None
+      ended u.output (Some (plain_report (length (harts_of opts (framed_image file) input)) u.end)) u.end None
 
   of_guest : (input : Option (List ℕ)) (file : List ℕ) (made : List ℕ → Due) → ((bytes : List ℕ) → P (made bytes)) → EachDue P (goes_on (refusal_of file) (with_input input made))
   of_guest input file made p = of_accepted (refusal_of file) (with_input input made) (of_input input made p)
+
+  of_demo : (number : ℕ) (seed : List ℕ) → P (demo_due number seed)
+  of_demo number seed =
+      let file : List ℕ = elf_file (object_of (guest_text number)) in
+      let m : Past = past_of default_opts (framed_image file) file demo_input seed in
+      of_fault (fault_of (guest_text number)) (demo_file_due number file seed)
+      (of_refusal (refusal_of file) (demo_ran number m) (ended (line_on number m) None (guest_of m).end (Some m)))
 
   pub of_command : (command : Command) (seed : List ℕ) → EachDue P (row_of (Some command) seed)
   of_command (Run name opts) seed = λ file. of_guest opts.input file (guest_due (Moved seed) opts file) (λ input. of_run opts file input seed)
   of_command (Plain name opts) seed = λ file. of_guest opts.input file (guest_due way.Plain opts file) (λ input. of_plain opts file input)
   of_command (Check name) seed = λ file. of_refusal (refusal_of file) (text_due (listing_of (framed_image file) (mapped_by (segments_of file)))) (text _)
   of_command (Asm source target) seed = λ source. of_fault (fault_of source) (store_due target (elf_file (object_of source))) (store target _)
+  of_command (Demo number) seed = of_demo number seed
+  of_command Help seed = text _
 
   pub of_row : P (line_due 10 usage_line) → (command : Option Command) (seed : List ℕ) → EachDue P (row_of command seed)
   of_row usage None seed = usage
@@ -89,7 +101,7 @@ run_small (Some (Exit code)) = by (nat_lt 0 code)
 run_small (Some (Trapped kind hart pair value)) = (2, omega arith, refl)
 run_small (Some (Leak hart pair)) = (3, omega arith, refl)
 
-ended_said : (out report : List ℕ) (end : Option End) (machine : Option Past) → DueIsSaid (ended_due out report end machine)
+ended_said : (out : List ℕ) (report : Option (List ℕ)) (end : Option End) (machine : Option Past) → DueIsSaid (ended_due out report end machine)
 ended_said out report end machine = said (run_status end) (run_small end)
   where
     said : (s : ℕ) → Contains (0 ∷ 1 ∷ 2 ∷ 3 ∷ 4 ∷ []) s → DueIsSaid (record (ended_due out report end machine) { status = s })

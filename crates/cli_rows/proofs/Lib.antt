@@ -1,4 +1,6 @@
 mod Assembling
 pub mod Dues
 mod Each
+pub mod Inputs
+mod Newest
 pub mod Sizes

@@ -1,7 +1,7 @@
 -- What may be due: a line, nothing, or more.
 use Rattle.std.specs.Prelude.{ℕ, List, Some, None}
 use Rattle.cli_rows.specs.declared.due.Due.{Due}
-use Rattle.cli_rows.specs.Lines.{usage_line, unreadable_line, too_long_line}
+use Rattle.cli_rows.specs.Lines.{help_text, usage_line, unreadable_line, too_long_line}
 
 -- a refusal: its line alone
 abbrev pub line_due : ℕ → List ℕ → Due
@@ -14,6 +14,9 @@ text_due text = record { store = None; out = Some text; report = None; status = 
 -- these bytes are stored under the name
 abbrev pub store_due : (name bytes : List ℕ) → Due
 store_due name bytes = record { store = Some (record { name = name; bytes = bytes }); out = None; report = None; status = 0; end = None; machine = None }
+
+abbrev pub help_due : Due
+help_due = text_due help_text
 
 abbrev pub usage_due : Due
 usage_due = line_due 10 usage_line

@@ -1,3 +1,4 @@
+pub mod Demo
 pub mod Dues
 pub mod Judged
 pub mod Limits

@@ -1,8 +1,12 @@
--- The lines that the program writes to the report where it refuses. This project's own.
+-- The lines that the program writes to the report where it refuses, and its help. This project's own.
 use Rattle.std.specs.Prelude.{ℕ, List, ◌++◌, codes, decimal}
 
 unfoldable pub usage_line : List ℕ
 usage_line = codes "shuffler: usage\n"
+
+-- the commands, a line each
+unfoldable pub help_text : List ℕ
+help_text = codes "shuffler run FILE\nshuffler plain FILE\nshuffler check FILE\nshuffler asm SRC OUT\nshuffler demo N\nshuffler help\n"
 
 unfoldable pub unreadable_line : List ℕ → List ℕ
 unreadable_line name = codes "shuffler: file " ++ name ++ codes " cannot be read\n"

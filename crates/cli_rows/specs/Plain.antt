@@ -1,5 +1,5 @@
 -- What a run that is never moved comes to.
-use Rattle.std.specs.Prelude.{ℕ, List, ◌++◌, Option, None, codes, decimal, length}
+use Rattle.std.specs.Prelude.{ℕ, List, ◌++◌, Option, Some, None, codes, decimal, length}
 use Rattle.sh_types.specs.declared.code.Image.{Image}
 use Rattle.sh_types.specs.declared.runs.End.{End}
 use Rattle.sh_machines.specs.PlainSerial.{plain_list}
@@ -27,7 +27,7 @@ plain_report count end = count_line count ++ end_line end
 
 -- of the unmoved machine in this state, after so many instructions
 abbrev pub stood_due : ℕ → Unmoved → Due
-stood_due count u = ended_due u.output (plain_report count u.end) u.end None
+stood_due count u = ended_due u.output (Some (plain_report count u.end)) u.end None
 
 -- a run that was made
 abbrev pub plain_due : Opts → Image → (input : List ℕ) → Due

@@ -10,20 +10,23 @@ use Rattle.asm_text.specs.declared.faults.LineFault.{LineFault}
 use Rattle.rv_asm.specs.Object.{object_of}
 use Rattle.rv_asm.specs.Passes.{fault_of}
 use Rattle.elf_write.specs.Written.{elf_file}
+use Rattle.guest_text.specs.Guest.{guest_text}
 use Rattle.image_text.specs.Lines.{fault_line, source_line}
 use Rattle.image_text.specs.Listing.{listing_of}
 use Rattle.cli_words.specs.declared.options.Opts.{Opts}
 use Rattle.cli_words.specs.declared.words.Command.{Command}
-use Rattle.cli_words.specs.declared.words.Command.TheVariants.{Run, Plain, Check, Asm}
+use Rattle.cli_words.specs.declared.words.Command.TheVariants.{Run, Plain, Check, Asm, Demo, Help}
+use Rattle.cli_words.specs.Options.{default_opts}
 use Rattle.cli_words.specs.Texts.{same}
 use Rattle.cli_rows.specs.declared.due.Due.{Due}
 use Rattle.cli_rows.specs.declared.way.Way.{Way}
 use Rattle.cli_rows.specs.declared.way.Way.TheVariants.{Moved}
 use Rattle.cli_rows.specs.declared.way.Way.TheVariants as way
-use Rattle.cli_rows.specs.Dues.{line_due, text_due, store_due, usage_due, unreadable_due, too_long_due}
+use Rattle.cli_rows.specs.Demo.{demo_input, demo_ran}
+use Rattle.cli_rows.specs.Dues.{line_due, text_due, store_due, help_due, usage_due, unreadable_due, too_long_due}
 use Rattle.cli_rows.specs.Limits.{file_limit}
 use Rattle.cli_rows.specs.Plain.{plain_due}
-use Rattle.cli_rows.specs.Run.{accepted_due}
+use Rattle.cli_rows.specs.Run.{accepted_due, past_of}
 
 -- a command loads a file of at most so many bytes and goes on by them, or comes to what is due
 pub data Row : Type 0 where
@@ -61,6 +64,14 @@ check_due file = unless_refused (refusal_of file) (text_due (listing_of (framed_
 abbrev pub asm_due : (target source : List ℕ) → Due
 asm_due target source = unless_faulty (fault_of source) (store_due target (elf_file (object_of source)))
 
+-- a generated guest's file is run by the options where the words give none
+abbrev pub demo_file_due : ℕ → (file seed : List ℕ) → Due
+demo_file_due number file seed = unless_refused (refusal_of file) (demo_ran number (past_of default_opts (framed_image file) file demo_input seed))
+
+-- a generated guest is assembled and run
+abbrev pub demo_due : ℕ → (seed : List ℕ) → Due
+demo_due number seed = unless_faulty (fault_of (guest_text number)) (demo_file_due number (elf_file (object_of (guest_text number))) seed)
+
 -- what is due for a guest that was run so
 abbrev pub guest_due : Way → Opts → (file input : List ℕ) → Due
 guest_due (Moved seed) opts file input = accepted_due opts file input seed
@@ -89,6 +100,8 @@ row_of (Some (Run name opts)) seed = run_row name opts seed
 row_of (Some (Plain name opts)) seed = plain_row name opts
 row_of (Some (Check name)) seed = check_row name
 row_of (Some (Asm source target)) seed = asm_row source target
+row_of (Some (Demo number)) seed = Come (demo_due number seed)
+row_of (Some Help) seed = Come help_due
 
 -- this is due where no further load was made
 abbrev pub at_end : List FileAnswer → Due → Option Due

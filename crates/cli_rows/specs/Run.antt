@@ -43,14 +43,14 @@ run_status (Some (Trapped kind hart pair value)) = 2
 run_status (Some (Leak hart pair)) = 3
 run_status None = 4
 
--- a run that was made: all that the guest wrote, a report, its end, and the machine where one was moved
-abbrev pub ended_due : (out report : List ℕ) → Option End → Option Past → Due
+-- a run that was made: what goes to out and to the report, its end, and the machine where one was moved
+abbrev pub ended_due : (out : List ℕ) (report : Option (List ℕ)) → Option End → Option Past → Due
 ended_due out report end machine =
-    record { store = None; out = Some out; report = Some report; status = run_status end; end = end; machine = machine }
+    record { store = None; out = Some out; report = report; status = run_status end; end = end; machine = machine }
 
 -- of a moved machine: all that the unmoved machine wrote, and the report
 abbrev pub ran_due : (period : ℕ) → Past → Due
-ran_due period m = ended_due (guest_of m).output (report_of period m) (guest_of m).end (Some m)
+ran_due period m = ended_due (guest_of m).output (Some (report_of period m)) (guest_of m).end (Some m)
 
 -- a run of an accepted file
 abbrev pub accepted_due : Opts → (file input seed : List ℕ) → Due

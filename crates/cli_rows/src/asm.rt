@@ -17,7 +17,7 @@ use sh_types::{Bytes, Name, NoMemory};
 use std::alloc::Global;
 
 /// The bytes of the file of a source.
-fn written(alloc: Global, source: &[u8]) -> Result<Bytes, AsmFault>
+pub fn written(alloc: Global, source: &[u8]) -> Result<Bytes, AsmFault>
     requires { length source.now ≤ file_limit }
     ensures { Writes result (fault_of source.now) (elf_file (object_of source.now)) }
 {

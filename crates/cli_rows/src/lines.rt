@@ -1,7 +1,7 @@
 //! What is due where nothing else is: one line to the report, or a text to out.
 ghost use Rattle.std.specs.Prelude.{◌≡◌, ◌≢◌, IfOk, string_bytes, decimal};
 ghost use Rattle.image_text.specs.Lines.{fault_line, source_line as source_line_of};
-ghost use Rattle.cli_rows.specs.Dues.{line_due, text_due, usage_due, unreadable_due, too_long_due};
+ghost use Rattle.cli_rows.specs.Dues.{line_due, text_due, help_due, usage_due, unreadable_due, too_long_due};
 ghost use Rattle.cli_rows.specs.Lines.{unwritable_line, longer_front};
 
 use crate::Due;
@@ -44,6 +44,17 @@ pub fn text(text: Bytes) -> Due
         end: None,
         machine: None,
     }
+}
+
+const HELP: &str =
+    "shuffler run FILE\nshuffler plain FILE\nshuffler check FILE\nshuffler asm SRC OUT\nshuffler demo N\nshuffler help\n";
+
+/// The lines on the commands are due, to out. Err only where memory is refused.
+#[tactic(auto, unfolding(crate::specs::Lines::help_text))]
+pub fn help(alloc: Global) -> Result<Due, NoMemory>
+    ensures { IfOk result (λ due. due ≡ help_due) }
+{
+    Ok(text(Bytes::from_vec(String::from_str(alloc, HELP)?.into_bytes())))
 }
 
 /// The line on words that are no command is due. Err only where memory is refused.

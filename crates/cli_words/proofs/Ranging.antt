@@ -8,13 +8,13 @@ use Rattle.cli_words.specs.declared.options.Opts.{Opts}
 use Rattle.cli_words.specs.declared.options.Valued.{Valued}
 use Rattle.cli_words.specs.declared.options.Valued.TheVariants.{Seed, Period, Quantum, Steps, Input}
 use Rattle.cli_words.specs.declared.words.Command.{Command}
-use Rattle.cli_words.specs.declared.words.Command.TheVariants.{Run, Plain, Check, Asm}
-use Rattle.cli_words.specs.Limits.{least_period, most_period, least_quantum, most_quantum, least_steps, most_steps}
+use Rattle.cli_words.specs.declared.words.Command.TheVariants.{Run, Plain, Check, Asm, Demo, Help}
+use Rattle.cli_words.specs.Limits.{least_guest, most_guest, least_period, most_period, least_quantum, most_quantum, least_steps, most_steps}
 use Rattle.cli_words.specs.Numbers.{is_decimal, decimal_value, number_in, seed_of}
 use Rattle.cli_words.specs.Options.{Reading, opening, default_opts, run_allowed, plain_allowed, valued_named, behind, with_value, serial_read, valued_read, word_read, whole, options_of}
 use Rattle.cli_words.specs.Ranges.{IsInRange, HasRanges}
 use Rattle.cli_words.specs.Texts.{same, is_file_word}
-use Rattle.cli_words.specs.Words.{file_with, serial_run, run_of, plain_of, check_of, asm_of, command_of}
+use Rattle.cli_words.specs.Words.{file_with, serial_run, run_of, plain_of, check_of, asm_of, demo_of, help_of, command_of}
 
 mapped : {A B P : Type 0} (f : A → B) (o : Option A) (y : B) → option_map f o ≡ Some y → ((x : A) → o ≡ Some x → f x ≡ y → P) → P
 mapped f None y is goes = absurd (none-some y is)
@@ -145,15 +145,26 @@ asm_ranged (source ∷ []) command is = absurd (none-some command is)
 asm_ranged (source ∷ target ∷ []) command is = subst HasRanges (cond_some (is_file_word source && is_file_word target) (Asm source target) command is).1 tt
 asm_ranged (source ∷ target ∷ more ∷ words) command is = absurd (none-some command is)
 
-verb_ranged : (words : List (List ℕ)) (command : Command) (run plain check asm : Bool)
-    → (if run then run_of words else (if plain then plain_of words else (if check then check_of words else (if asm then asm_of words else None)))) ≡ Some command
+demo_ranged : (words : List (List ℕ)) (command : Command) → demo_of words ≡ Some command → HasRanges command
+demo_ranged [] command is = absurd (none-some command is)
+demo_ranged (word ∷ []) command is = mapped Demo (number_in least_guest most_guest word) command is (λ n read e. subst HasRanges e (number_ranged least_guest most_guest word n read))
+demo_ranged (word ∷ more ∷ words) command is = absurd (none-some command is)
+
+help_ranged : (words : List (List ℕ)) (command : Command) → help_of words ≡ Some command → HasRanges command
+help_ranged [] command is = subst HasRanges (same_Some Help command is) tt
+help_ranged (word ∷ words) command is = absurd (none-some command is)
+
+verb_ranged : (words : List (List ℕ)) (command : Command) (run plain check asm demo help : Bool)
+    → (if run then run_of words else (if plain then plain_of words else (if check then check_of words else (if asm then asm_of words else (if demo then demo_of words else (if help then help_of words else None)))))) ≡ Some command
     → HasRanges command
-verb_ranged words command true plain check asm is = run_ranged words command is
-verb_ranged words command false true check asm is = plain_ranged words command is
-verb_ranged words command false false true asm is = check_ranged words command is
-verb_ranged words command false false false true is = asm_ranged words command is
-verb_ranged words command false false false false is = absurd (none-some command is)
+verb_ranged words command true plain check asm demo help is = run_ranged words command is
+verb_ranged words command false true check asm demo help is = plain_ranged words command is
+verb_ranged words command false false true asm demo help is = check_ranged words command is
+verb_ranged words command false false false true demo help is = asm_ranged words command is
+verb_ranged words command false false false false true help is = demo_ranged words command is
+verb_ranged words command false false false false false true is = help_ranged words command is
+verb_ranged words command false false false false false false is = absurd (none-some command is)
 
 pub command_ranged : (words : List (List ℕ)) (command : Command) → command_of words ≡ Some command → HasRanges command
 command_ranged [] command is = absurd (none-some command is)
-command_ranged (verb ∷ words) command is = verb_ranged words command (same verb (codes "run")) (same verb (codes "plain")) (same verb (codes "check")) (same verb (codes "asm")) is
+command_ranged (verb ∷ words) command is = verb_ranged words command (same verb (codes "run")) (same verb (codes "plain")) (same verb (codes "check")) (same verb (codes "asm")) (same verb (codes "demo")) (same verb (codes "help")) is

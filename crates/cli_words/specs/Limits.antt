@@ -34,6 +34,13 @@ default_steps = 100000000
 abbrev pub default_workers : ℕ
 default_workers = 4
 
+-- numbers of generated guests
+abbrev pub least_guest : ℕ
+least_guest = 1
+
+abbrev pub most_guest : ℕ
+most_guest = 1000
+
 -- bytes of a seed
 abbrev pub seed_size : ℕ
 seed_size = 32

@@ -2,8 +2,8 @@
 use Rattle.std.specs.Prelude.{◌≤◌, ⊤}
 use Rattle.cli_words.specs.declared.options.Opts.{Opts}
 use Rattle.cli_words.specs.declared.words.Command.{Command}
-use Rattle.cli_words.specs.declared.words.Command.TheVariants.{Run, Plain, Check, Asm}
-use Rattle.cli_words.specs.Limits.{least_period, most_period, least_quantum, most_quantum, most_steps}
+use Rattle.cli_words.specs.declared.words.Command.TheVariants.{Run, Plain, Check, Asm, Demo, Help}
+use Rattle.cli_words.specs.Limits.{least_guest, most_guest, least_period, most_period, least_quantum, most_quantum, most_steps}
 
 pub record IsInRange (opts : Opts) : Type 0 where
   pub some_period : least_period ≤ opts.period
@@ -18,3 +18,5 @@ HasRanges (Run file opts) = IsInRange opts
 HasRanges (Plain file opts) = IsInRange opts
 HasRanges (Check file) = ⊤
 HasRanges (Asm source target) = ⊤
+HasRanges (Demo number) = (least_guest ≤ number) × (number ≤ most_guest)
+HasRanges Help = ⊤

@@ -3,7 +3,9 @@ use Rattle.std.specs.Prelude.{ℕ, ◌&&◌, List, [], ◌∷◌, codes, Option,
 use Rattle.cli_words.specs.declared.options.Allowed.{Allowed}
 use Rattle.cli_words.specs.declared.options.Opts.{Opts}
 use Rattle.cli_words.specs.declared.words.Command.{Command}
-use Rattle.cli_words.specs.declared.words.Command.TheVariants.{Run, Plain, Check, Asm}
+use Rattle.cli_words.specs.declared.words.Command.TheVariants.{Run, Plain, Check, Asm, Demo, Help}
+use Rattle.cli_words.specs.Limits.{least_guest, most_guest}
+use Rattle.cli_words.specs.Numbers.{number_in}
 use Rattle.cli_words.specs.Options.{opening, options_of, run_allowed, plain_allowed}
 use Rattle.cli_words.specs.Texts.{same, is_file_word}
 
@@ -34,13 +36,25 @@ abbrev pub asm_of : List (List ℕ) → Option Command
 asm_of (source ∷ target ∷ []) = if is_file_word source && is_file_word target then Some (Asm source target) else None
 asm_of _ = None
 
+-- `demo N`
+abbrev pub demo_of : List (List ℕ) → Option Command
+demo_of (word ∷ []) = option_map Demo (number_in least_guest most_guest word)
+demo_of _ = None
+
+-- `help`
+abbrev pub help_of : List (List ℕ) → Option Command
+help_of [] = Some Help
+help_of _ = None
+
 -- the command of a verb and the words behind it
 abbrev pub verb_of : (verb : List ℕ) → List (List ℕ) → Option Command
 verb_of verb words =
     if same verb (codes "run") then run_of words
     else (if same verb (codes "plain") then plain_of words
     else (if same verb (codes "check") then check_of words
-    else (if same verb (codes "asm") then asm_of words else None)))
+    else (if same verb (codes "asm") then asm_of words
+    else (if same verb (codes "demo") then demo_of words
+    else (if same verb (codes "help") then help_of words else None)))))
 
 -- the command, or none where the words are none
 abbrev pub command_of : List (List ℕ) → Option Command

@@ -23,5 +23,10 @@ pub const DEFAULT_STEPS: u64 = 100_000_000;
 
 pub const DEFAULT_WORKERS: u32 = 4;
 
+/// Numbers of generated guests.
+pub const LEAST_GUEST: u64 = 1;
+
+pub const MOST_GUEST: u64 = 1_000;
+
 /// Bytes of a seed.
 pub const SEED_SIZE: usize = 32;

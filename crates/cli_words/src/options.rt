@@ -1,6 +1,7 @@
 //! The options of the command line, one by one.
 ghost use Rattle.std.specs.Prelude.{◌≡◌, IfOk, IsErrOf, option_map};
 ghost use Rattle.cli_words.specs.Options.{default_opts, run_allowed, plain_allowed, valued_named as valued_named_of, behind as behind_of, with_value as with_value_of};
+ghost use Rattle.cli_words.specs.Ranges.{IsInRange};
 ghost use Rattle.cli_words.specs.Told.{told};
 
 use crate::WordFault;
@@ -26,6 +27,25 @@ pub struct Opts {
     pub serial: bool,
     pub input: Option<Name>,
     pub full: bool,
+}
+
+impl Opts {
+    /// The options where the words give none.
+    pub fn none() -> Opts
+        ensures is { result ≡ default_opts }
+        ensures ranges { IsInRange result }
+    {
+        Opts {
+            seed: None,
+            period: DEFAULT_PERIOD,
+            quantum: DEFAULT_QUANTUM,
+            steps: DEFAULT_STEPS,
+            workers: DEFAULT_WORKERS,
+            serial: false,
+            input: None,
+            full: false,
+        }
+    }
 }
 
 /// The options that have a value.

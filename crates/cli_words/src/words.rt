@@ -2,9 +2,11 @@
 ghost use Rattle.std.specs.Prelude.{◌≡◌, IfOk, IsErrOf, IsSome, None, Some, option_map};
 ghost use Rattle.cli_words.specs.Told.{told};
 ghost use Rattle.cli_words.specs.Texts.{texts};
-ghost use Rattle.cli_words.specs.Words.{file_with as file_with_of, run_of, plain_of, check_of, asm_of, verb_of, command_of};
+ghost use Rattle.cli_words.specs.Words.{file_with as file_with_of, run_of, plain_of, check_of, asm_of, demo_of, help_of, verb_of, command_of};
 
 use crate::WordFault;
+use crate::limits::{LEAST_GUEST, MOST_GUEST};
+use crate::numbers::number_in;
 use crate::options::{Allowed, Options, Opts};
 use crate::reading::read_options;
 use crate::texts::{named, names_file};
@@ -18,6 +20,8 @@ pub enum Command {
     Plain { file: Name, opts: Opts },
     Check { file: Name },
     Asm { source: Name, target: Name },
+    Demo { number: u32 },
+    Help,
 }
 
 /// FILE and the options behind it, of those that may come. None where the words are none.
@@ -102,6 +106,35 @@ fn read_asm(alloc: Global, words: &[String]) -> Result<Command, WordFault>
     })
 }
 
+/// `demo N`.
+fn read_demo(words: &[String]) -> Result<Command, WordFault>
+    ensures usage { IsErrOf result WordFault.Usage → demo_of (texts words.now) ≡ None }
+    ensures command { IfOk result (λ command. demo_of (texts words.now) ≡ Some command) }
+    ensures memory { IsErrOf result WordFault.NoMemory → ⊥ }
+{
+    let [word] = words else {
+        return Err(WordFault::Usage);
+    };
+    match number_in(LEAST_GUEST, MOST_GUEST, word.as_str()) {
+        Some(number) => Ok(Command::Demo {
+            number: number as u32,
+        }),
+        None => Err(WordFault::Usage),
+    }
+}
+
+/// `help`, alone.
+fn read_help(words: &[String]) -> Result<Command, WordFault>
+    ensures usage { IsErrOf result WordFault.Usage → help_of (texts words.now) ≡ None }
+    ensures command { IfOk result (λ command. help_of (texts words.now) ≡ Some command) }
+    ensures memory { IsErrOf result WordFault.NoMemory → ⊥ }
+{
+    match words {
+        [] => Ok(Command::Help),
+        _ => Err(WordFault::Usage),
+    }
+}
+
 /// By the verb.
 fn read_verb(alloc: Global, verb: &str, words: &[String]) -> Result<Command, WordFault>
     ensures usage { IsErrOf result WordFault.Usage → verb_of verb.now (texts words.now) ≡ None }
@@ -113,6 +146,8 @@ fn read_verb(alloc: Global, verb: &str, words: &[String]) -> Result<Command, Wor
         "plain" => read_plain(alloc, words),
         "check" => read_check(alloc, words),
         "asm" => read_asm(alloc, words),
+        "demo" => read_demo(words),
+        "help" => read_help(words),
         _ => Err(WordFault::Usage),
     }
 }

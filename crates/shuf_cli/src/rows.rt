@@ -11,8 +11,8 @@ ghost use Rattle.shuf_cli.specs.Asked.{Came, Stopped};
 use crate::FileOr;
 use crate::loads::{load_file, load_input};
 use cli_rows::{
-    Command, Due, FILE_LIMIT, Judged, Opts, Way, WordFault, judge, numbers_are_in_range, of_asm,
-    of_check, of_guest, read_words, usage,
+    Command, Due, FILE_LIMIT, Judged, Opts, Way, WordFault, help, judge, numbers_are_in_range,
+    of_asm, of_check, of_demo, of_guest, read_words, usage,
 };
 use sh_base::Files;
 use sh_types::{Bytes, Image, NoMemory};
@@ -145,6 +145,8 @@ fn do_command<R: Threads + Sync, F: Files>(
         Command::Asm { source, target } => {
             asm_file(alloc, source.as_str(), target.as_str(), files)
         }
+        Command::Demo { number } => of_demo(rt, alloc, *number, seed),
+        Command::Help => help(alloc),
     }
 }
 
