@@ -175,9 +175,14 @@ pub on_err : {T E : Type 0} (r : Result T E) (P : Type 0) → P → OnErr r P
 on_err (Ok t) P p = tt
 on_err (Err e) P p = p
 
+-- a command that loads nothing
+pub came_at_once : (command : Option Command) (seed : List ℕ) (files : FilesState) (made : Due) (r : Result Due NoMemory) → row_of command seed ≡ Come made → IfOk r (λ due. due ≡ made)
+    → IfOk r (λ due. Came (row_of command seed) files files due)
+came_at_once command seed files made (Ok due) row is =
+    subst (λ x. Came x files files due) (sym row) (subst (λ d. Came (Come made) files files d) (sym is) (came_here made files))
+came_at_once command seed files made (Err e) row is = tt
+
 -- words that are no command
 pub usage_came : (command : Option Command) (seed : List ℕ) (files : FilesState) (r : Result Due NoMemory) → command ≡ None → IfOk r (λ due. due ≡ usage_due)
     → IfOk r (λ due. Came (row_of command seed) files files due)
-usage_came command seed files (Ok due) none is =
-    subst (λ c. Came (row_of c seed) files files due) (sym none) (subst (λ d. Came (Come usage_due) files files d) (sym is) (came_here usage_due files))
-usage_came command seed files (Err e) none is = tt
+usage_came command seed files r none is = came_at_once command seed files usage_due r (ap (λ c. row_of c seed) none) is
