@@ -14,7 +14,7 @@ use crate::state::State;
 use plain_memory::Contents;
 use sh_types::{NoMemory, Stored};
 use thread_acts::{Did, Thread};
-use thread_step::{Code, step};
+use thread_step::{Code, quick_step, step};
 
 /// Whether the instruction went, and no other hart can have lost a reservation by it. `watched`: another hart may hold one.
 #[inline(always)]
@@ -43,9 +43,11 @@ fn go_alone<M: Contents>(
     ensures regions { M.regions memory.new ≡ M.regions memory.old }
 {
     while *count < limit {
-        let did = step(code, thread, memory)?;
-        if !goes_alone(did, watched) {
-            return Ok(Some(did));
+        if !quick_step(code, thread, memory) {
+            let did = step(code, thread, memory)?;
+            if !goes_alone(did, watched) {
+                return Ok(Some(did));
+            }
         }
         *count += 1;
     }

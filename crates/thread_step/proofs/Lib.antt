@@ -4,4 +4,5 @@ pub mod Framing
 pub mod Grouping
 pub mod Lookups
 pub mod Numbering
+mod Staying
 pub mod Words

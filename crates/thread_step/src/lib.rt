@@ -10,10 +10,11 @@ mod frames;
 mod listing;
 mod literals;
 mod plain;
+mod quick;
 mod reading;
 mod sites;
 mod stepping;
 mod tasks;
 
 pub use code::Code;
-pub use stepping::step;
+pub use stepping::{quick_step, step};

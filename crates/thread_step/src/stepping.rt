@@ -1,5 +1,6 @@
 //! One instruction, by its task.
 ghost use Rattle.std.specs.Prelude.{◌≡◌, IfOk, None, OnErr};
+ghost use Rattle.std.specs.Bool.{OnFalse, OnTrue};
 ghost use Rattle.rv_table.specs.Decoding.{decoded};
 ghost use Rattle.sh_machines.specs.Kind.{kind_at};
 ghost use Rattle.sh_machines.specs.Need.{answered};
@@ -12,6 +13,7 @@ ghost use Rattle.thread_step.specs.Doing.{Does, DoesAlone};
 use crate::answers::trapped;
 use crate::code::Code;
 use crate::doing::does;
+use crate::quick::quick;
 use plain_memory::Contents;
 use sh_types::{NoMemory, Pair, Trap};
 use thread_acts::{Did, Thread};
@@ -49,7 +51,7 @@ fn unlisted<M: Contents>(code: &Code, thread: &mut Thread, memory: &mut M) -> Re
 
 /// One instruction of a hart: what the word at its pair does to the hart and to memory, and what comes of it. Where
 /// memory is refused, which only a save asks for, nothing has changed.
-#[inline(always)]
+#[inline(never)]
 pub fn step<M: Contents>(code: &Code, thread: &mut Thread, memory: &mut M) -> Result<Did, NoMemory>
     ensures done { IfOk result (λ did. IsDone (answered (thread_does (M.regions memory.old) (meant thread.old) (kind_at code.now thread.old.at)) (M.contents memory.old)) thread.old thread.new (M.contents memory.old) (M.contents memory.new) did) }
     ensures regions { M.regions memory.new ≡ M.regions memory.old }
@@ -58,5 +60,18 @@ pub fn step<M: Contents>(code: &Code, thread: &mut Thread, memory: &mut M) -> Re
     match code.listed_at(thread.at) {
         Some(task) => does(code, thread, task, memory),
         None => unlisted(code, thread, memory),
+    }
+}
+
+/// One instruction of a hart that stores nothing and goes on: true where the word at its pair is such a one and is done.
+/// False of every other, and then nothing has changed.
+#[inline(always)]
+pub fn quick_step<M: Contents>(code: &Code, thread: &mut Thread, memory: &M) -> bool
+    ensures went { OnTrue result (IsDone (answered (thread_does (M.regions memory.now) (meant thread.old) (kind_at code.now thread.old.at)) (M.contents memory.now)) thread.old thread.new (M.contents memory.now) (M.contents memory.now) (Did.Went None)) }
+    ensures stays { OnFalse result (thread.new ≡ thread.old) }
+{
+    match code.listed_at(thread.at) {
+        Some(task) => quick(code, thread, task, memory),
+        None => false,
     }
 }
