@@ -1,6 +1,7 @@
 -- What is looked up in the code of an image.
 use Rattle.std.proofs.Common.{◌≡◌, ℕ, zero, suc, ◌+◌, ◌*◌, ◌/◌, ◌%◌, ◌<◌, ◌≤◌, ◌^◌, ◌⊎◌, inl, inr, Bool, true, false, Option, Some, None, List, [], ◌∷◌, length, get_or, map, refl, sym, ap, ◌∙◌, subst, arith}
 use Rattle.std.specs.Prelude.{◌==◌, IfSome, slice_get, slice_index, slice_index_or}
+use Rattle.std.specs.Option.{IfNone}
 use Rattle.std.specs.Slice.{IsItemAt}
 use denote.Ref.{Bor}
 use Rattle.std.proofs.lemmas.Bool.Decides.{nat_tests}
@@ -81,6 +82,13 @@ stands tasks list list' p o whole func e e' h =
       is = s.1 ∙ ap (λ xs. get_or xs (p.off / 4) Illegal) same;
     })
 
+-- and where nothing is lent, nothing stands there
+pub nothing_stands : (tasks : List (List Task)) (list list' : List Task) (p : Pair) (o : Option (Bor Task)) → p.func < length tasks → list ≡ get_or tasks p.func list → list' ≡ list → IsItemAt list' (p.off / 4) o → IfNone o ((t : Task) → StandsAt tasks p t → ⊥)
+nothing_stands tasks list list' p (Some x) func e e' h = tt
+nothing_stands tasks list list' p None func e e' h = λ t s.
+    let same : list' ≡ slice_index_or tasks p.func [] = e' ∙ get_or_read tasks p.func list func e [] in
+    absurd (omega (arith, h, s.inside, ap length same))
+
 -- the task that stands at a pair is that of its word; the image and the lists may be given otherwise
 pub listed_task : (image image' : Image) (tasks tasks' : List (List Task)) (p : Pair) (t : Task) → tasks' ≡ tasks → image ≡ image' → AreListed image (length (sizes_of image)) tasks → StandsAt tasks' p t → IsTask image' p t
 listed_task image image' tasks tasks' p t et ei l s' =
@@ -98,6 +106,20 @@ listed_next image tasks tasks' p t e sized l s' =
     let s : StandsAt tasks p t = subst (λ ts. StandsAt ts p t) e s' in
     let here : AreTasks image p.func (slice_index (sizes_of image) p.func / 4) (slice_index_or tasks p.func []) = l.each p.func (omega (arith, s.func, l.many)) in
     next_fits (sizes_of image) p.func p.off sized (omega (arith, s.whole, s.inside, here.many))
+
+-- a word of a function has a task that stands at its pair
+word_stands : (image : Image) (tasks : List (List Task)) (p : Pair) → IsSized (sizes_of image) → AreListed image (length (sizes_of image)) tasks → p.off % 4 ≡ 0 → p.off < slice_index (sizes_of image) p.func → StandsAt tasks p (slice_index_or (slice_index_or tasks p.func []) (p.off / 4) Illegal)
+word_stands image tasks p sized l whole lt =
+    let func : p.func < length (sizes_of image) = has_bytes (sizes_of image) p.func p.off lt in
+    let here : AreTasks image p.func (slice_index (sizes_of image) p.func / 4) (slice_index_or tasks p.func []) = l.each p.func func in
+    let size = sized.whole p.func in
+    record { whole = whole; func = omega (arith, func, l.many); inside = omega (arith, lt, whole, size, here.many); is = refl }
+
+pub none_listed : (image image' : Image) (tasks tasks' : List (List Task)) (p : Pair) (o : Option (Bor Task)) → tasks' ≡ tasks → image ≡ image' → IsSized (sizes_of image) → AreListed image (length (sizes_of image)) tasks → IfNone o ((t : Task) → StandsAt tasks' p t → ⊥) → IfNone o (p.off % 4 ≡ 0 → p.off < slice_index (sizes_of image') p.func → ⊥)
+none_listed image image' tasks tasks' p (Some x) et ei sized l not = tt
+none_listed image image' tasks tasks' p None et ei sized l not = λ whole lt.
+    let inside : p.off < slice_index (sizes_of image) p.func = subst (λ i. p.off < slice_index (sizes_of i) p.func) (sym ei) lt in
+    not _ (subst (λ ts. StandsAt ts p (slice_index_or (slice_index_or tasks p.func []) (p.off / 4) Illegal)) (sym et) (word_stands image tasks p sized l whole inside))
 
 -- ---- the whole
 

@@ -1,5 +1,5 @@
 -- What an instruction that stores nothing leaves where it is not done: nothing has changed.
-use Rattle.std.proofs.Common.{◌≡◌, ℕ, List, Bool, true, false, subst, ap}
+use Rattle.std.proofs.Common.{◌≡◌, ℕ, List, Bool, true, false, subst, ap, sym, ◌∙◌}
 use Rattle.std.specs.Bool.{OnFalse, OnTrue}
 use Rattle.std.specs.Prelude.{◌==◌, ◌&&◌, ◌/◌, ◌%◌, None, slice_index, if◌then◌else◌}
 use Rattle.rv_table.specs.Operands.{both_ra, plus_imm, reads_ra, width_of}
@@ -15,7 +15,10 @@ use Rattle.thread_acts.specs.Done.{did_of, meant, thread_after}
 use Rattle.thread_acts.specs.declared.answers.Did.{Did}
 use Rattle.thread_acts.specs.declared.answers.Did.TheVariants.{Went}
 use Rattle.thread_acts.specs.declared.threads.Thread.{Thread}
-use Rattle.thread_step.specs.Doing.{Does, DoesAlone}
+use Rattle.thread_step.specs.Doing.{Does, DoesAlone, Stops}
+use Rattle.thread_step.specs.Task.{kind_of}
+use Rattle.thread_step.specs.declared.tasks.Task.{Task}
+use Rattle.sh_types.specs.declared.code.Image.{Image}
 
 -- no word is written
 abbrev IsLight : Outcome unmoved.Thread Content → Type 0
@@ -77,3 +80,13 @@ on_false false P Q p f = f p
 
 pub alone_went : (t t' : Thread) (k : Kind Pair) (did : Did) → did ≡ Went None → DoesAlone t t' k did → DoesAlone t t' k (Went None)
 alone_went t t' k did e d = subst (λ x. DoesAlone t t' k x) e d
+
+-- an instruction that came to anything else does not go on
+pub stops : (regions : List Region) (t t' : Thread) (u : ℕ → Content) (k : Kind Pair) (did : Did) → (did ≡ Went None → ⊥) → Does regions t t' u u k did → Stops regions t u k
+stops regions t t' u k did not d h went = not (d.did_is ∙ sym went.did_is)
+
+pub alone_stops : (t t' : Thread) (k : Kind Pair) (did : Did) → (did ≡ Went None → ⊥) → DoesAlone t t' k did → (regions : List Region) (u : ℕ → Content) → Stops regions t u k
+alone_stops t t' k did not d regions u = stops regions t t' u k did not (d regions u)
+
+pub task_stops : (regions : List Region) (t : Thread) (u : ℕ → Content) (image : Image) (p : Pair) (task given : Task) → task ≡ given → Stops regions t u (kind_of image p given) → Stops regions t u (kind_of image p task)
+task_stops regions t u image p task given e = subst (λ x. Stops regions t u (kind_of image p x)) (sym e)

@@ -1,5 +1,6 @@
 //! The code of an image, as an interpreter looks it up.
-ghost use Rattle.std.specs.Prelude.{◌≡◌, ◌+◌, ◌<◌, ◌^◌, ◌==◌, IfOk, IfSome, slice_index};
+ghost use Rattle.std.specs.Prelude.{◌≡◌, ◌+◌, ◌<◌, ◌^◌, ◌%◌, ◌==◌, IfOk, IfSome, slice_index};
+ghost use Rattle.std.specs.Option.{IfNone};
 ghost use Rattle.rv_operands.specs.Registers.{NamesRegisters};
 ghost use Rattle.rv_table.specs.Decoding.{decoded};
 ghost use Rattle.sh_machines.specs.Fine.{IsFine};
@@ -73,6 +74,7 @@ impl Code {
         ensures kind { IfSome result (λ task. kind_of self.now at task.now ≡ kind_at self.now at) }
         ensures doable { IfSome result (λ task. IsDoable task.now) }
         ensures next { IfSome result (λ _. at.off + 4 < 2 ^ 32) }
+        ensures none { IfNone result (at.off % 4 ≡ 0 → at.off < slice_index (sizes_of self.now) at.func → ⊥) }
     {
         listed(self.tasks.as_slice(), at)
     }

@@ -1,8 +1,10 @@
 //! For each word of an image the task that it is.
 ghost use Rattle.std.specs.Prelude.{◌/◌, IfOk, IfSome, length, slice_index};
+ghost use Rattle.std.specs.Option.{IfNone};
 ghost use Rattle.sh_types.specs.Image.{sizes_of};
 ghost use Rattle.thread_step.specs.Listed.{AreListed, AreTasks, StandsAt};
 ghost use Rattle.thread_step.specs.Numbered.{IsNumbered};
+ghost use Rattle.thread_step.specs.declared.tasks.Task.{Task};
 
 use crate::reading::size;
 use crate::sites::task_at;
@@ -54,7 +56,8 @@ pub fn listed_tasks(
 /// The task in lists of tasks, one list for each function, at a pair; None where no word begins, and past the lists.
 #[inline(always)]
 pub fn listed(tasks: &[Items<Task>], at: Pair) -> Option<&Task>
-    ensures { IfSome result (λ task. StandsAt tasks.now at task.now) }
+    ensures is { IfSome result (λ task. StandsAt tasks.now at task.now) }
+    ensures none { IfNone result ((task : Task) → StandsAt tasks.now at task → ⊥) }
 {
     if at.off % 4 != 0 {
         return None;

@@ -1,12 +1,14 @@
 //! Tasks that store nothing, each with a plain answer: whether it is done. Where it is not, nothing has changed, and the
 //! instruction is done the long way, which says what comes of it.
-ghost use Rattle.std.specs.Prelude.{◌≡◌, ◌+◌, ◌<◌, ◌^◌, IsTrue, None};
+ghost use Rattle.std.specs.Prelude.{◌≡◌, ◌+◌, ◌<◌, ◌^◌, ℕ, List, IsTrue, None};
 ghost use Rattle.std.specs.Bool.{OnFalse, OnTrue};
 ghost use Rattle.rv_operands.specs.Registers.{NamesRegisters};
 ghost use Rattle.rv_table.specs.Arithmetic.{is_arithmetic, is_branch, is_load};
 ghost use Rattle.sh_machines.specs.Kind.{Branches, Computes, Loads};
+ghost use Rattle.sh_machines.specs.Unmoved.{Content};
 ghost use Rattle.sh_types.specs.Place.{pair};
-ghost use Rattle.thread_step.specs.Doing.{Does, DoesAlone};
+ghost use Rattle.sh_types.specs.declared.code.Region.{Region};
+ghost use Rattle.thread_step.specs.Doing.{Does, DoesAlone, Stops, is_quick};
 ghost use Rattle.thread_step.specs.Task.{IsDoable, kind_of};
 
 use crate::code::Code;
@@ -37,6 +39,7 @@ fn quick_computes(thread: &mut Thread, instr: Instr) -> bool
     requires arithmetic { IsTrue (is_arithmetic instr.op) }
     ensures went { OnTrue result (DoesAlone thread.old thread.new (Computes instr) (Did.Went None)) }
     ensures stays { OnFalse result (thread.new ≡ thread.old) }
+    ensures stops { OnFalse result ((regions : List Region) (u : ℕ → Content) → Stops regions thread.old u (Computes instr)) }
 {
     is_quiet(computes(thread, instr))
 }
@@ -49,6 +52,7 @@ fn quick_branches(thread: &mut Thread, instr: Instr, off: u32) -> bool
     requires branch { IsTrue (is_branch instr.op) }
     ensures went { OnTrue result (DoesAlone thread.old thread.new (Branches instr (pair thread.old.at.func off)) (Did.Went None)) }
     ensures stays { OnFalse result (thread.new ≡ thread.old) }
+    ensures stops { OnFalse result ((regions : List Region) (u : ℕ → Content) → Stops regions thread.old u (Branches instr (pair thread.old.at.func off))) }
 {
     is_quiet(branch_to(thread, instr, off))
 }
@@ -61,6 +65,7 @@ fn quick_loads<M: Contents>(thread: &mut Thread, instr: Instr, memory: &M) -> bo
     requires load { IsTrue (is_load instr.op) }
     ensures went { OnTrue result (Does (M.regions memory.now) thread.old thread.new (M.contents memory.now) (M.contents memory.now) (Loads instr) (Did.Went None)) }
     ensures stays { OnFalse result (thread.new ≡ thread.old) }
+    ensures stops { OnFalse result (Stops (M.regions memory.now) thread.old (M.contents memory.now) (Loads instr)) }
 {
     is_quiet(loads(thread, instr, memory))
 }
@@ -73,6 +78,7 @@ pub fn quick<M: Contents>(code: &Code, thread: &mut Thread, task: &Task, memory:
     requires off { thread.old.at.off + 4 < 2 ^ 32 }
     ensures went { OnTrue result (Does (M.regions memory.now) thread.old thread.new (M.contents memory.now) (M.contents memory.now) (kind_of code.now thread.old.at task.now) (Did.Went None)) }
     ensures stays { OnFalse result (thread.new ≡ thread.old) }
+    ensures stops { OnFalse result (IsTrue (is_quick (kind_of code.now thread.old.at task.now)) → Stops (M.regions memory.now) thread.old (M.contents memory.now) (kind_of code.now thread.old.at task.now)) }
 {
     let _code = code;
     match *task {

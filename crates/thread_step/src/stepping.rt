@@ -1,14 +1,14 @@
 //! One instruction, by its task.
-ghost use Rattle.std.specs.Prelude.{◌≡◌, IfOk, None, OnErr};
+ghost use Rattle.std.specs.Prelude.{◌≡◌, ◌<◌, ◌%◌, IfOk, IsTrue, None, OnErr, slice_index};
 ghost use Rattle.std.specs.Bool.{OnFalse, OnTrue};
 ghost use Rattle.rv_table.specs.Decoding.{decoded};
 ghost use Rattle.sh_machines.specs.Kind.{kind_at};
 ghost use Rattle.sh_machines.specs.Need.{answered};
 ghost use Rattle.sh_machines.specs.Unmoved.{thread_does};
-ghost use Rattle.sh_types.specs.Image.{word_at};
+ghost use Rattle.sh_types.specs.Image.{sizes_of, word_at};
 ghost use Rattle.thread_acts.specs.Done.{IsDone, meant};
 ghost use Rattle.thread_acts.specs.declared.threads.Thread.{Thread};
-ghost use Rattle.thread_step.specs.Doing.{Does, DoesAlone};
+ghost use Rattle.thread_step.specs.Doing.{Does, DoesAlone, Stops, is_quick};
 
 use crate::answers::trapped;
 use crate::code::Code;
@@ -64,11 +64,13 @@ pub fn step<M: Contents>(code: &Code, thread: &mut Thread, memory: &mut M) -> Re
 }
 
 /// One instruction of a hart that stores nothing and goes on: true where the word at its pair is such a one and is done.
-/// False of every other, and then nothing has changed.
+/// False of every other, and then nothing has changed: there is no word at the pair, its kind may write memory or ask for
+/// something, or it traps or uses a return address as data.
 #[inline(always)]
 pub fn quick_step<M: Contents>(code: &Code, thread: &mut Thread, memory: &M) -> bool
     ensures went { OnTrue result (IsDone (answered (thread_does (M.regions memory.now) (meant thread.old) (kind_at code.now thread.old.at)) (M.contents memory.now)) thread.old thread.new (M.contents memory.now) (M.contents memory.now) (Did.Went None)) }
     ensures stays { OnFalse result (thread.new ≡ thread.old) }
+    ensures stops { OnFalse result (thread.old.at.off % 4 ≡ 0 → thread.old.at.off < slice_index (sizes_of code.now) thread.old.at.func → IsTrue (is_quick (kind_at code.now thread.old.at)) → Stops (M.regions memory.now) thread.old (M.contents memory.now) (kind_at code.now thread.old.at)) }
 {
     match code.listed_at(thread.at) {
         Some(task) => quick(code, thread, task, memory),
