@@ -1,5 +1,5 @@
 //! What is due for a generated guest: one line on its run.
-ghost use Rattle.std.specs.Prelude.{◌≡◌, ℕ, ◌≤◌, [], IfOk, string_bytes};
+ghost use Rattle.std.specs.Prelude.{◌≡◌, ℕ, ◌≤◌, [], IfOk, OnOk, string_bytes};
 ghost use Rattle.image_rules.specs.Framed.{framed_image};
 ghost use Rattle.cli_words.specs.Limits.{least_guest, most_guest};
 ghost use Rattle.cli_words.specs.Options.{default_opts};
@@ -87,14 +87,24 @@ fn ran_with(line: Bytes, machine: Machine) -> Due
     }
 }
 
-/// What is due for the machine of a generated guest, which has done nothing.
+/// Runs a machine that has done nothing, and tells of it.
+fn run(alloc: Global, number: u32, machine: &mut Machine) -> Result<Bytes, NoMemory>
+    requires { machine.old.journal ≡ [] }
+    ensures ran { OnOk result (machine.new ≡ run_by default_opts machine.old) }
+    ensures line { IfOk result (λ line. line ≡ line_on number machine.new) }
+{
+    make_run(alloc, machine, &Opts::none())?;
+    told(alloc, number, machine)
+}
+
+/// What is due for the machine of a generated guest, which has done nothing. It is run by reference, so that it is
+/// dropped in one place.
 fn of_machine(alloc: Global, number: u32, machine: Machine) -> Result<Due, NoMemory>
     requires { machine.journal ≡ [] }
     ensures { IfOk result (λ due. due ≡ demo_ran number (run_by default_opts machine)) }
 {
     let mut machine = machine;
-    make_run(alloc, &mut machine, &Opts::none())?;
-    let line = told(alloc, number, &machine)?;
+    let line = run(alloc, number, &mut machine)?;
     Ok(ran_with(line, machine))
 }
 
