@@ -1,4 +1,5 @@
 #!/usr/bin/env python3
+# SPDX-License-Identifier: Apache-2.0
 """Guests by number. With numbers behind it, it prints the sources of these guests.
 
 A guest has functions of several kinds, each of which calls those that were made before it, and `start`, which calls them

@@ -1,3 +1,4 @@
+/* SPDX-License-Identifier: Apache-2.0 */
 /* A library that stands before the allocator of a program (LD_PRELOAD) and refuses the calls with the numbers from
    REFUSED_FIRST to REFUSED_LAST, counted from 1. The first eight bytes of the file REFUSED_COUNT get the number of calls
    that were made, however the program ends. */

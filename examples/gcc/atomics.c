@@ -1,3 +1,4 @@
+/* SPDX-License-Identifier: Apache-2.0 */
 /* Words that are changed by LR and SC and by AMO instructions, in inline assembly and by the compiler's own calls. */
 #include "print.h"
 

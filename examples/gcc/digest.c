@@ -1,3 +1,4 @@
+/* SPDX-License-Identifier: Apache-2.0 */
 /* SHA-256 of some texts (FIPS 180-4). */
 #include "print.h"
 

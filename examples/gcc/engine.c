@@ -1,3 +1,4 @@
+/* SPDX-License-Identifier: Apache-2.0 */
 /* A small machine with a stack, whose instructions are the cases of a switch. */
 #include "print.h"
 

@@ -1,3 +1,4 @@
+/* SPDX-License-Identifier: Apache-2.0 */
 /* Figures with tables of functions, an alias, a weak function that is put in place, and data that points to data. */
 #include "print.h"
 

@@ -1,3 +1,4 @@
+/* SPDX-License-Identifier: Apache-2.0 */
 /* Adds a number from its input to a pointer to a function, and calls what comes of it: as if the pointer was overwritten
    with an address that somebody worked out from one that leaked. In forged.in the number is the distance from `open` to
    `vault`, as it is in the file. */

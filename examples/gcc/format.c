@@ -1,3 +1,4 @@
+/* SPDX-License-Identifier: Apache-2.0 */
 /* Text by a format and a variable number of arguments: those in registers are stored above the frame's other parts. */
 #include <stdarg.h>
 #include "print.h"

@@ -1,3 +1,4 @@
+/* SPDX-License-Identifier: Apache-2.0 */
 /* Frames that one instruction cannot make: above 2,047 bytes sp moves by a register, and ra is saved in between. */
 #include "print.h"
 

@@ -1,3 +1,4 @@
+/* SPDX-License-Identifier: Apache-2.0 */
 /* Does what the lines of its input say: names of handlers with `+` between them, a blank, and the text that they are done
    to, one after the other. The handlers stand in a table beside their names. In the running program such a pointer is a
    token that stands for the function: it can be copied, compared and called, wherever the function lies by then. */

@@ -1,3 +1,4 @@
+/* SPDX-License-Identifier: Apache-2.0 */
 /* The smallest program: it writes a line. */
 #include "shuffler.h"
 

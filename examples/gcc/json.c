@@ -1,3 +1,4 @@
+/* SPDX-License-Identifier: Apache-2.0 */
 /* Reads each line of its input as a JSON text, and says how many values it has and how deep they are nested, or where it
    is no such text. The input may be anything: sizes and depth have limits, and no byte is written by it. */
 #include "print.h"

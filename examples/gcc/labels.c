@@ -1,3 +1,4 @@
+/* SPDX-License-Identifier: Apache-2.0 */
 /* A machine that jumps from instruction to instruction by a table of labels (GNU C). The table is data, so it counts as
    a jump table; the address of a label in code would be refused. */
 #include "print.h"

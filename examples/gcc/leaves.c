@@ -1,3 +1,4 @@
+/* SPDX-License-Identifier: Apache-2.0 */
 /* Functions that do not come back. The code behind a call of one is another path's, but counts as reached from the call:
    where only some paths have a frame (-fshrink-wrap) that may be refused. The program ends with code 4. */
 #include "print.h"

@@ -1,3 +1,4 @@
+/* SPDX-License-Identifier: Apache-2.0 */
 /* What the compiler calls for data that is copied, set or compared. It must not make calls of itself of these loops. */
 #pragma GCC optimize("no-tree-loop-distribute-patterns")
 

@@ -1,3 +1,4 @@
+/* SPDX-License-Identifier: Apache-2.0 */
 /* Greets whom its input names. The name is copied to the stack without a look at its length: a longer one is written over
    the return address of `greet`. In overflow.in it is the address of `vault`, again and again. */
 #include "print.h"

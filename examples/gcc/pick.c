@@ -1,3 +1,4 @@
+/* SPDX-License-Identifier: Apache-2.0 */
 /* One switch. Where addresses count from the program counter, its table has differences of labels: such a file is
    refused, since two records stand at each place of the table. */
 void write_bytes(const char *text, unsigned long size);

@@ -1,3 +1,4 @@
+/* SPDX-License-Identifier: Apache-2.0 */
 /* Text to the output: what the programs share. */
 #include "print.h"
 

@@ -1,3 +1,4 @@
+/* SPDX-License-Identifier: Apache-2.0 */
 void write_bytes(const char *text, unsigned long size);
 unsigned long length_of(const char *text);
 void print(const char *text);

@@ -1,3 +1,4 @@
+/* SPDX-License-Identifier: Apache-2.0 */
 /* Four harts share a queue: the first puts numbers into it, three take them out and reckon. A place in the queue is taken
    by a compare and exchange (LR and SC), sums are kept by additions in memory (AMO). What is written is the same in
    whatever order the harts have their turns. */

@@ -1,3 +1,4 @@
+/* SPDX-License-Identifier: Apache-2.0 */
 /* Reads all of its input, in pieces of several sizes, and says what it read: bytes, lines, words and a checksum. */
 #include "print.h"
 

@@ -1,3 +1,4 @@
+/* SPDX-License-Identifier: Apache-2.0 */
 /* Reckons texts in reverse Polish notation, by a table of names and functions. */
 #include "print.h"
 

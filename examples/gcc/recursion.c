@@ -1,3 +1,4 @@
+/* SPDX-License-Identifier: Apache-2.0 */
 /* Deep recursion, long enough that new layouts come while many return addresses are on the stack. */
 #include "print.h"
 

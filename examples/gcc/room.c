@@ -1,3 +1,4 @@
+/* SPDX-License-Identifier: Apache-2.0 */
 /* An array whose size is known only as the program runs: sp moves by a number that is not known, which is refused. */
 #include "print.h"
 

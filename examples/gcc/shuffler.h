@@ -1,3 +1,4 @@
+/* SPDX-License-Identifier: Apache-2.0 */
 /* The environment calls of a guest, as C functions. A program that includes this is linked with entry.S.
 
    An answer below zero says why a call was refused: -9 no such file, -14 bytes that cannot be read or written, -22 no

@@ -1,3 +1,4 @@
+/* SPDX-License-Identifier: Apache-2.0 */
 /* Sorts the lines of its input, once by their bytes and once by their lengths. The order is a function that the sort calls
    by a pointer. */
 #include "print.h"

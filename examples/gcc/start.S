@@ -1,3 +1,4 @@
+# SPDX-License-Identifier: Apache-2.0
 # Where each of these programs starts: a routine without type and size, so that it is `entry` in the listing. It sets up
 # the stack, and ends with the status that main answers.
         .file "start.S"

@@ -1,3 +1,4 @@
+/* SPDX-License-Identifier: Apache-2.0 */
 /* What print.c writes by, in programs that start at entry.S. */
 #include "print.h"
 #include "shuffler.h"

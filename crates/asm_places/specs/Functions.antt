@@ -1,3 +1,4 @@
+-- SPDX-License-Identifier: Apache-2.0
 -- The functions of a source, and what refers to what.
 use Rattle.std.specs.Prelude.{ℕ, ◌+◌, ◌-◌, Option, Some, None, List, [], ◌∷◌, ◌++◌}
 use Rattle.sh_types.specs.declared.code.Function.{Function}

@@ -1,3 +1,4 @@
+-- SPDX-License-Identifier: Apache-2.0
 -- What statements give at their places, one behind the other, and the size of the text.
 use Rattle.std.specs.Prelude.{ℕ, List, [], ◌∷◌, ◌++◌}
 use Rattle.asm_text.specs.declared.statements.Statement.{Statement}

@@ -1,3 +1,4 @@
+-- SPDX-License-Identifier: Apache-2.0
 -- What a map from names to numbers has.
 use Rattle.std.specs.Prelude.{ℕ, Option, List}
 use Rattle.std.specs.BTreeMap.{BTreeMap, get_by}

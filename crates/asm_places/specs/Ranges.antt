@@ -1,3 +1,4 @@
+-- SPDX-License-Identifier: Apache-2.0
 -- The ranges of operands, and the bytes that the text and the data may have.
 use Rattle.std.specs.Prelude.{ℕ, ℤ, pos, negsuc, ◌^◌, ◌==◌, ◌&&◌, ◌||◌, not, nat_lt, Bool, true, Option, Some, None, List, [], ◌∷◌, if◌then◌else◌}
 use Rattle.rv_table.specs.declared.instructions.Op.{Op}

@@ -1,3 +1,4 @@
+-- SPDX-License-Identifier: Apache-2.0
 -- The symbols of the file that a source becomes, and their numbers (System V gABI, "Symbol Table").
 use Rattle.std.specs.Prelude.{ℕ, ◌+◌, Bool, false, Option, Some, None, List, [], ◌∷◌, ◌++◌, map, codes, decimal, if◌then◌else◌}
 use Rattle.sh_types.specs.declared.code.Function.{Function}

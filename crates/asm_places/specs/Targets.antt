@@ -1,3 +1,4 @@
+-- SPDX-License-Identifier: Apache-2.0
 -- What names stand for, and how far it is.
 use Rattle.std.specs.Prelude.{ℕ, ℤ, pos, ◌-ℤ◌, ◌+◌, ◌*◌, ◌/◌, ◌^◌, ◌||◌, Bool, true, false, Option, Some, None, List, [], ◌∷◌, option_map, if◌then◌else◌}
 use Rattle.asm_text.specs.declared.statements.Statement.{Statement}

@@ -1,3 +1,4 @@
+// SPDX-License-Identifier: Apache-2.0
 //! How far it is from statements to what they name.
 ghost use Rattle.std.specs.Prelude.{◌≡◌, ◌≤◌, ◌<◌, ◌^◌, true, false, None, length, IfOk};
 ghost use Rattle.asm_places.specs.Places.{first_place};

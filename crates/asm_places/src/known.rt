@@ -1,3 +1,4 @@
+// SPDX-License-Identifier: Apache-2.0
 //! Names that are not defined.
 ghost use Rattle.std.specs.Prelude.{◌≡◌, ◌<◌, ◌^◌, ◌||◌, ℕ, List, false, length, IfOk, OnOk};
 ghost use Rattle.asm_places.specs.Names.{is_taken, keys_in, function_key, functions_in, is_known as is_known_of, unknown_line as unknown_line_of, first_unknown as first_unknown_of};

@@ -1,3 +1,4 @@
+// SPDX-License-Identifier: Apache-2.0
 //! Where the statements of a source stand, what their names stand for, and the first lines that break a rule by these;
 //! and by these the functions and the symbols of a source.
 #![tactic(auto)]

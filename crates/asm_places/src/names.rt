@@ -1,3 +1,4 @@
+// SPDX-License-Identifier: Apache-2.0
 //! Names that are defined twice.
 ghost use Rattle.std.specs.Prelude.{◌≡◌, ◌<◌, ◌^◌, ◌||◌, [], ℕ, List, false, not, length, option_map, IfOk, OnOk};
 ghost use Rattle.asm_places.specs.Names.{is_entry as is_entry_of, entry_twice_line as entry_twice_line_of, key_of, same_key, name_twice_line as name_twice_line_of};

@@ -1,3 +1,4 @@
+// SPDX-License-Identifier: Apache-2.0
 //! Where statements stand.
 ghost use Rattle.std.specs.Prelude.{◌≡◌, ◌≤◌, ◌<◌, ◌^◌, true, false, length, IfSome, IfNone};
 ghost use Rattle.asm_places.specs.Places.{is_code as is_code_of, is_data as is_data_of, is_misplaced as is_misplaced_of, is_inside_after as is_inside_after_of, misplaced_line as misplaced_line_of, is_open as is_open_of, natural as natural_of, is_small as is_small_of, text_size as text_size_of, padding as padding_of, data_size as data_size_of, begins as begins_of, place_after as place_after_of, first_place};

@@ -1,3 +1,4 @@
+// SPDX-License-Identifier: Apache-2.0
 //! The ranges of operands.
 ghost use Rattle.std.specs.Prelude.{◌≡◌, ◌<◌, ◌^◌, IsTrue};
 ghost use Rattle.asm_places.specs.Ranges.{is_from as is_from_of, is_immediate as is_immediate_of, is_value as is_value_of, is_in_range as is_in_range_of};

@@ -1,3 +1,4 @@
+// SPDX-License-Identifier: Apache-2.0
 //! The symbols of a source, and their numbers.
 ghost use Rattle.std.specs.Prelude.{◌≡◌, ◌≤◌, ◌<◌, ◌+◌, ◌^◌, ◌++◌, ◌∷◌, [], ℕ, List, false, Some, None, map, length, if◌then◌else◌, IfOk, OnOk};
 ghost use Rattle.asm_words.specs.Tables.{first_of};

@@ -1,3 +1,4 @@
+// SPDX-License-Identifier: Apache-2.0
 //! What names stand for.
 ghost use Rattle.std.specs.Prelude.{◌≡◌, ◌≤◌, ◌<◌, ◌^◌, ℕ, List, true, false, None, length, IfOk, OnOk, option_map};
 ghost use Rattle.asm_words.specs.Tables.{first_of};

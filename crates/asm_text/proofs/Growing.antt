@@ -1,3 +1,4 @@
+-- SPDX-License-Identifier: Apache-2.0
 -- Items that grow by the statements of a line.
 use Rattle.std.proofs.Common.{◌≡◌, ℕ, ◌<◌, Bool, true, false, List, [], ◌∷◌, ◌++◌, length, refl, sym, ap, subst, ◌∙◌, append_assoc, arith}
 use Rattle.std.specs.Prelude.{Option, Some, None, Result, Ok, Err, map, option_map, if◌then◌else◌}

@@ -1,3 +1,4 @@
+-- SPDX-License-Identifier: Apache-2.0
 -- The names that a text defines, and a byte more for each statement, come to no more bytes than the text has.
 use Rattle.std.proofs.Common.{◌≡◌, ℕ, ◌+◌, ◌<◌, ◌≤◌, Bool, true, false, List, [], ◌∷◌, ◌++◌, length, refl, sym, subst, arith}
 use Rattle.std.specs.Prelude.{ℤ, ◌==◌, slice_index, Option, Some, None, map, option_map, option_and_then, if◌then◌else◌}

@@ -1,3 +1,4 @@
+-- SPDX-License-Identifier: Apache-2.0
 -- What functions return that add the statements of a line and may be refused memory.
 use Rattle.std.specs.Prelude.{◌≡◌, ℕ, Option, Some, Result, Ok, Err, List, [], ◌++◌, map, option_map}
 use Rattle.asm_words.specs.declared.faults.Unread.{Unread}

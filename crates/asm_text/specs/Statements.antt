@@ -1,3 +1,4 @@
+-- SPDX-License-Identifier: Apache-2.0
 -- What text is which statement.
 use Rattle.std.specs.Prelude.{ℕ, ℤ, pos, ◌==◌, Bool, Option, Some, None, List, [], ◌∷◌, length, option_map, if◌then◌else◌}
 use Rattle.rv_table.specs.declared.instructions.Op.{Op}

@@ -1,3 +1,4 @@
+// SPDX-License-Identifier: Apache-2.0
 //! Statements of registers and numbers.
 ghost use Rattle.std.specs.Prelude.{◌≡◌, option_map};
 ghost use Rattle.asm_text.specs.Statements.{register_form as register_form_of, immediate_form as immediate_form_of, memory_form as memory_form_of, store_form as store_form_of, upper_form as upper_form_of, atomic_form as atomic_form_of, reserve_form as reserve_form_of, alone as alone_of, move_form as move_form_of, to_register_form as to_register_form_of, literal_form as literal_form_of, plain_of, instruction as instruction_of};

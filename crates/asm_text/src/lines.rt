@@ -1,3 +1,4 @@
+// SPDX-License-Identifier: Apache-2.0
 //! The statements of a text, line by line.
 ghost use Rattle.std.specs.Prelude.{◌≡◌, ◌==◌, ◌≤◌, ◌<◌, ◌∷◌, [], Some, length, drop, MatchOption, IfSome, IfOk};
 ghost use Rattle.asm_text.specs.declared.lines.Quote.TheVariants.{Outside};

@@ -1,3 +1,4 @@
+// SPDX-License-Identifier: Apache-2.0
 //! Statements with names.
 ghost use Rattle.std.specs.Prelude.{◌≡◌};
 ghost use Rattle.asm_words.specs.Results.{Gives};

@@ -1,3 +1,4 @@
+// SPDX-License-Identifier: Apache-2.0
 //! The statements of one text between `;`s.
 ghost use Rattle.std.specs.Prelude.{◌≡◌, ◌∷◌, [], option_map, Some};
 ghost use Rattle.asm_words.specs.Results.{Gives};

@@ -1,3 +1,4 @@
+// SPDX-License-Identifier: Apache-2.0
 //! Statements of the source language as data.
 use rv_table::Op;
 use sh_types::{Bytes, SymbolName};

@@ -1,3 +1,4 @@
+-- SPDX-License-Identifier: Apache-2.0
 -- Words that are no text stand in no table.
 use Rattle.std.proofs.Common.{◌≡◌, ℕ, zero, suc, ◌<◌, Bool, true, false, List, [], ◌∷◌, get_or, lit<, refl, sym, subst}
 use Rattle.std.proofs.lemmas.Bool.{ltb-true}

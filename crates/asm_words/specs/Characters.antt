@@ -1,3 +1,4 @@
+-- SPDX-License-Identifier: Apache-2.0
 -- Characters of the source language: blanks, names, and where a text is cut.
 use Rattle.std.specs.Prelude.{ℕ, ◌==◌, ◌&&◌, ◌||◌, not, nat_le, Bool, Option, Some, None, List, [], ◌∷◌, length, slice_index, option_map, if◌then◌else◌}
 use Rattle.std.specs.List.{list_all}

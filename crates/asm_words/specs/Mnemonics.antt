@@ -1,3 +1,4 @@
+-- SPDX-License-Identifier: Apache-2.0
 -- The mnemonics and directives of the source language, by the operands that they take.
 use Rattle.std.specs.Prelude.{ℕ, true, false, Option, List, [], ◌∷◌, ◌++◌, codes, option_map}
 use Rattle.asm_words.specs.Tables.{named, first_of}

@@ -1,3 +1,4 @@
+-- SPDX-License-Identifier: Apache-2.0
 -- Numbers of the source language.
 use Rattle.std.specs.Prelude.{ℕ, ℤ, pos, ◌-ℤ◌, ◌+◌, ◌-◌, ◌*◌, ◌^◌, ◌==◌, ◌&&◌, nat_le, nat_lt, min, Option, Some, None, List, [], ◌∷◌, length, slice_index, drop, option_map, option_and_then, if◌then◌else◌}
 use Rattle.asm_words.specs.Characters.{is_digit, trimmed}

@@ -1,3 +1,4 @@
+-- SPDX-License-Identifier: Apache-2.0
 -- Operands of the source language: registers, numbers and names, one behind the other.
 use Rattle.std.specs.Prelude.{ℕ, ℤ, ◌==◌, Bool, Option, Some, None, List, length, if◌then◌else◌}
 use Rattle.asm_words.specs.Characters.{cut, trimmed, is_name}

@@ -1,3 +1,4 @@
+-- SPDX-License-Identifier: Apache-2.0
 -- The names of registers (RISC-V psABI, "Integer Register Convention").
 use Rattle.std.specs.Prelude.{ℕ, Option, List, [], ◌∷◌, ◌++◌, codes}
 use Rattle.asm_words.specs.Tables.{named, first_of}

@@ -1,3 +1,4 @@
+-- SPDX-License-Identifier: Apache-2.0
 -- What functions return that read a text and may be refused memory (this project's own).
 use Rattle.std.specs.Prelude.{◌≡◌, Option, Some, None, Result, Ok, Err}
 use Rattle.asm_words.specs.declared.faults.Unread.{Unread}

@@ -1,3 +1,4 @@
+-- SPDX-License-Identifier: Apache-2.0
 -- Strings of the source language.
 use Rattle.std.specs.Prelude.{ℕ, ◌==◌, ◌||◌, Bool, true, false, Option, Some, None, List, [], ◌∷◌, length, slice_index, drop, option_map, if◌then◌else◌}
 use Rattle.asm_words.specs.Characters.{trimmed}

@@ -1,3 +1,4 @@
+// SPDX-License-Identifier: Apache-2.0
 //! The words of an assembler's source: what its characters, numbers, strings, registers, names and mnemonics mean.
 #![tactic(auto)]
 

@@ -1,3 +1,4 @@
+// SPDX-License-Identifier: Apache-2.0
 //! The mnemonics and directives of the source language.
 ghost use Rattle.std.specs.Prelude.{◌≡◌};
 ghost use Rattle.asm_words.specs.Tables.{named};

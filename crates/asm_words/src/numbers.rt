@@ -1,3 +1,4 @@
+// SPDX-License-Identifier: Apache-2.0
 //! Numbers of the source language.
 ghost use Rattle.std.specs.Prelude.{◌≡◌, ◌≤◌, ◌<◌, ◌^◌, pos, ◌-ℤ◌, Some, None, IfSome, true, false};
 ghost use Rattle.asm_words.specs.Numbers.{digit_value as digit_value_of, digit_of, digits, magnitude as magnitude_of, signed as signed_of, number_of};

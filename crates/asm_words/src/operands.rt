@@ -1,3 +1,4 @@
+// SPDX-License-Identifier: Apache-2.0
 //! Operands: registers, numbers and names, one behind the other.
 ghost use Rattle.std.specs.Prelude.{◌≡◌, ◌==◌, length, option_map, IfSome, IfNone};
 ghost use Rattle.std.specs.Str.{IsUtf8};

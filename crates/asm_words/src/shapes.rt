@@ -1,3 +1,4 @@
+// SPDX-License-Identifier: Apache-2.0
 //! What mnemonics and directives take.
 use rv_table::Op;
 

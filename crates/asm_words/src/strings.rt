@@ -1,3 +1,4 @@
+// SPDX-License-Identifier: Apache-2.0
 //! Strings of the source language.
 ghost use Rattle.std.specs.Prelude.{◌≡◌, false};
 ghost use Rattle.asm_words.specs.Results.{Gives};

@@ -1,3 +1,4 @@
+-- SPDX-License-Identifier: Apache-2.0
 -- No two tokens in data share a byte, as no two records do.
 use Rattle.std.proofs.Common.{◌≡◌, inl, inr, ℕ, ◌<◌, true, false, Option, Some, None, List, [], ◌∷◌, ◌++◌, refl, sym, ap, ◌∙◌, subst, arith}
 use Rattle.std.specs.Prelude.{filter, find, map, not, ◌==◌, ◌||◌}

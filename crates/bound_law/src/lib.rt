@@ -1,3 +1,4 @@
+// SPDX-License-Identifier: Apache-2.0
 //! What is true of the bound images of files that can be bound, as clauses of functions that do nothing.
 #![tactic(auto)]
 

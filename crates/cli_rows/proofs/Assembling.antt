@@ -1,3 +1,4 @@
+-- SPDX-License-Identifier: Apache-2.0
 -- What an assembly comes to, by what its steps answer.
 use Rattle.std.proofs.Common.{◌≡◌, ◌≤◌, ℕ, List, length, refl, sym, subst, arith}
 use Rattle.std.specs.Prelude.{Option, Some, None, Ok}

@@ -1,3 +1,4 @@
+-- SPDX-License-Identifier: Apache-2.0
 -- The bytes of the input of a generated guest, one after the other.
 use Rattle.std.proofs.Common.{◌≡◌, ℕ, ◌+◌, [], ◌∷◌, ◌++◌, suc, refl, ap, ◌∙◌, add-one}
 use Rattle.cli_rows.specs.Demo.{input_byte, first_bytes}

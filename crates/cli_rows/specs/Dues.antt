@@ -1,3 +1,4 @@
+-- SPDX-License-Identifier: Apache-2.0
 -- What may be due: a line, nothing, or more.
 use Rattle.std.specs.Prelude.{ℕ, List, Some, None}
 use Rattle.cli_rows.specs.declared.due.Due.{Due}

@@ -1,3 +1,4 @@
+-- SPDX-License-Identifier: Apache-2.0
 -- What a file is judged to be.
 use Rattle.std.specs.Prelude.{◌≡◌, List, ℕ, None, IsSomeAnd}
 use Rattle.image_rules.specs.Framed.{framed_image, refusal_of}

@@ -1,3 +1,4 @@
+-- SPDX-License-Identifier: Apache-2.0
 -- The program's limits. This project's own.
 use Rattle.std.specs.Prelude.{ℕ}
 

@@ -1,3 +1,4 @@
+-- SPDX-License-Identifier: Apache-2.0
 -- What each command comes to: the loads that it asks for, one after the other, and what is due by what they gave.
 use Rattle.std.specs.Prelude.{ℕ, List, [], ◌∷◌, length, nat_lt, if◌then◌else◌, Option, Some, None, MatchOption, ⊤}
 use Rattle.sh_base.specs.Held.{FileMap, Loads}

@@ -1,3 +1,4 @@
+-- SPDX-License-Identifier: Apache-2.0
 -- What a run of a file comes to, by the unmoved machine alone.
 use Rattle.std.specs.Prelude.{ℕ, List, Option, Some, None, unwrap_or, if◌then◌else◌, nat_lt}
 use Rattle.sh_types.specs.declared.code.Image.{Image}

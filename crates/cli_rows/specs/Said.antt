@@ -1,3 +1,4 @@
+-- SPDX-License-Identifier: Apache-2.0
 -- What is read off the commands' rows, of what is due.
 use Rattle.std.specs.Prelude.{◌≡◌, ◌≢◌, ◌≤◌, ◌∷◌, [], None, Contains}
 use Rattle.cli_rows.specs.declared.due.Due.{Due}

@@ -1,3 +1,4 @@
+// SPDX-License-Identifier: Apache-2.0
 //! What is due for a check of a file.
 ghost use Rattle.std.specs.Prelude.{◌≡◌, IfOk};
 ghost use Rattle.elf_rules.specs.Bindable.{mapped_by};

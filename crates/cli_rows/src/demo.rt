@@ -1,3 +1,4 @@
+// SPDX-License-Identifier: Apache-2.0
 //! What is due for a generated guest: one line on its run.
 ghost use Rattle.std.specs.Prelude.{◌≡◌, ℕ, ◌≤◌, [], IfOk, OnOk, string_bytes};
 ghost use Rattle.image_rules.specs.Framed.{framed_image};

@@ -1,3 +1,4 @@
+// SPDX-License-Identifier: Apache-2.0
 //! What is due.
 
 use sh_types::{Bytes, End, Name};

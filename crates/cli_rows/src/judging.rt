@@ -1,3 +1,4 @@
+// SPDX-License-Identifier: Apache-2.0
 //! Whether a file is accepted.
 ghost use Rattle.std.specs.Prelude.{IfOk};
 ghost use Rattle.cli_rows.specs.Judged.{IsJudged};

@@ -1,3 +1,4 @@
+// SPDX-License-Identifier: Apache-2.0
 //! What is read off the rows, as the clause of a function that does nothing.
 ghost use Rattle.std.specs.Prelude.{◌≡◌, List, ℕ, Option, Some};
 ghost use Rattle.sh_base.specs.Told.{FileAnswer};

@@ -1,3 +1,4 @@
+// SPDX-License-Identifier: Apache-2.0
 //! What the commands of the command line come to: rows, and what is due.
 #![tactic(auto)]
 

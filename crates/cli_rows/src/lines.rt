@@ -1,3 +1,4 @@
+// SPDX-License-Identifier: Apache-2.0
 //! What is due where nothing else is: one line to the report, or a text to out.
 ghost use Rattle.std.specs.Prelude.{◌≡◌, ◌≢◌, IfOk, string_bytes, decimal};
 ghost use Rattle.image_text.specs.Lines.{fault_line, source_line as source_line_of};

@@ -1,3 +1,4 @@
+// SPDX-License-Identifier: Apache-2.0
 //! The law on the journal of a run.
 ghost use Rattle.std.specs.Prelude.{◌≡◌, List, ℕ, ◌≤◌, Some};
 ghost use Rattle.sh_machines.specs.Pace.{IsPaced, pace_after};

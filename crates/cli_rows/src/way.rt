@@ -1,3 +1,4 @@
+// SPDX-License-Identifier: Apache-2.0
 //! By which machine a guest is run.
 ghost use Rattle.std.specs.Prelude.{◌≡◌, IfOk};
 ghost use Rattle.cli_words.specs.Ranges.{IsInRange};

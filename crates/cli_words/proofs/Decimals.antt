@@ -1,3 +1,4 @@
+-- SPDX-License-Identifier: Apache-2.0
 -- A word of decimal digits as a number, by what parsing it answers.
 use Rattle.std.proofs.Common.{◌≡◌, ◌<◌, ◌^◌, ℕ, List, true, length, sym, ◌∙◌, ap, inl, inr, arith}
 use Rattle.std.specs.Prelude.{◌==◌, ◌||◌, ◌&&◌, not, nat_le, nat_lt, slice_index, Option, Some, None, option_and_then, Result, Ok, Err, if◌then◌else◌}

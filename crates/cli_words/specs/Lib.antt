@@ -1,3 +1,4 @@
+-- SPDX-License-Identifier: Apache-2.0
 pub mod Limits
 pub mod Numbers
 pub mod Options

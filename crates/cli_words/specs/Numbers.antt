@@ -1,3 +1,4 @@
+-- SPDX-License-Identifier: Apache-2.0
 -- Words that are numbers, and words that are seeds.
 use Rattle.std.specs.Prelude.{ℕ, ◌==◌, ◌&&◌, ◌||◌, Bool, not, nat_le, nat_lt, List, length, slice_index, Option, Some, None, if◌then◌else◌}
 use Rattle.std.specs.Str.{all_ascii_digits}

@@ -1,3 +1,4 @@
+-- SPDX-License-Identifier: Apache-2.0
 -- The options behind a verb's plain words, in any order: each at most once, and its value as the next word.
 use Rattle.std.specs.Prelude.{ℕ, true, false, List, [], ◌∷◌, codes, Option, Some, None, option_map, option_and_then, if◌then◌else◌}
 use Rattle.std.specs.Bool.{then_some}

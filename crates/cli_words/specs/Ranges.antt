@@ -1,3 +1,4 @@
+-- SPDX-License-Identifier: Apache-2.0
 -- The numbers of a command are in their ranges.
 use Rattle.std.specs.Prelude.{◌≤◌, ⊤}
 use Rattle.cli_words.specs.declared.options.Opts.{Opts}

@@ -1,3 +1,4 @@
+-- SPDX-License-Identifier: Apache-2.0
 -- Words as texts, and those that can name a file.
 use Rattle.std.specs.Prelude.{ℕ, ◌&&◌, Bool, not, List, map, length, codes, string_bytes, String, nat_lt, nat_eq}
 use Rattle.std.specs.List.{starts_with}

@@ -1,3 +1,4 @@
+-- SPDX-License-Identifier: Apache-2.0
 -- What the options that were read say, with the input's name as the text of its word.
 use Rattle.std.specs.Prelude.{false}
 use Rattle.std.specs.Option.{option_copied}

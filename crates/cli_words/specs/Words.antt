@@ -1,3 +1,4 @@
+-- SPDX-License-Identifier: Apache-2.0
 -- The words of a command line, and the command that they are.
 use Rattle.std.specs.Prelude.{ℕ, ◌&&◌, List, [], ◌∷◌, codes, Option, Some, None, option_map, option_and_then, if◌then◌else◌}
 use Rattle.cli_words.specs.declared.options.Allowed.{Allowed}

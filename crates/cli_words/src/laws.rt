@@ -1,3 +1,4 @@
+// SPDX-License-Identifier: Apache-2.0
 //! What is true of every command.
 ghost use Rattle.std.specs.Prelude.{◌≡◌, List, ℕ, Some};
 ghost use Rattle.cli_words.specs.declared.words.Command.{Command};

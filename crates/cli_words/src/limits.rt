@@ -1,3 +1,4 @@
+// SPDX-License-Identifier: Apache-2.0
 //! The limits of the options, and what holds where the words give none.
 
 /// Instructions between publications.

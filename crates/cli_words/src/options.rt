@@ -1,3 +1,4 @@
+// SPDX-License-Identifier: Apache-2.0
 //! The options of the command line, one by one.
 ghost use Rattle.std.specs.Prelude.{◌≡◌, IfOk, IsErrOf, option_map};
 ghost use Rattle.cli_words.specs.Options.{default_opts, run_allowed, plain_allowed, valued_named as valued_named_of, behind as behind_of, with_value as with_value_of};

@@ -1,3 +1,4 @@
+// SPDX-License-Identifier: Apache-2.0
 //! The word that stands at a pair of a layout.
 ghost use Rattle.std.specs.Prelude.{◌≡◌, ◌<◌, length};
 ghost use Rattle.sh_machines.specs.Copy.{jal_word};

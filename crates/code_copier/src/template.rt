@@ -1,3 +1,4 @@
+// SPDX-License-Identifier: Apache-2.0
 //! What the words of an image are in every copy, made once.
 ghost use Rattle.std.specs.Prelude.{◌≡◌, ◌+◌, ◌/◌, ◌%◌, ◌<◌, ◌≤◌, [], IfOk, length, slice_index, slice_index_or};
 ghost use Rattle.sh_machines.specs.Copy.{IsCopyable, literal_number, literals_below, moved_word};

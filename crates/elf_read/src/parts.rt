@@ -1,3 +1,4 @@
+// SPDX-License-Identifier: Apache-2.0
 //! Section headers by their numbers, and the bytes of sections.
 ghost use Rattle.std.specs.Prelude.{◌≡◌, get_or};
 ghost use Rattle.elf_rules.specs.Elf as elf_specs;

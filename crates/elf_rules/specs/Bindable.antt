@@ -1,3 +1,4 @@
+-- SPDX-License-Identifier: Apache-2.0
 -- Which files can be bound, in which order the others are refused, and what stands in such a file. A file cannot be bound
 -- where a rule of the ELF file fails (ElfRules, RelocRules), a limit is passed, a rule of splitting fails (Splitting), or its
 -- bytes do not agree with a relocation record. Frames come later, and may refuse further files. The limits and the order are

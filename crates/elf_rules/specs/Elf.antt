@@ -1,3 +1,4 @@
+-- SPDX-License-Identifier: Apache-2.0
 -- Where the fields of an ELF-64 file stand (System V gABI, "ELF Header", "Program Header", "Section Header",
 -- "Symbol Table", "String Table"), and its tables. The numbers have their lowest byte first; bytes past the end of the file read as zeros.
 use Rattle.std.specs.Prelude.{ℕ, zero, suc, ◌+◌, ◌*◌, ◌/◌, ◌%◌, ◌==◌, ◌&&◌, not, nat_le, Bool, Option, Some, None, unwrap_or, List, [], ◌∷◌, length, map, filter, take, drop, take_while, get_or, bit_and, slice_index, if◌then◌else◌}

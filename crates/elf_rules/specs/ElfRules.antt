@@ -1,3 +1,4 @@
+-- SPDX-License-Identifier: Apache-2.0
 -- Where each rule on a file fails, a row of the table for each, and which rule is answered. The fields are those of the
 -- System V gABI ("ELF Header", "Program Header", "Section Header", "Symbol Table", "String Table") and of the RISC-V
 -- psABI ("File Header"). Sums are whole numbers. The rules and their order are this project's own; those on relocation

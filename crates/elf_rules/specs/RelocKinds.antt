@@ -1,3 +1,4 @@
+-- SPDX-License-Identifier: Apache-2.0
 -- The kinds of relocation records by their numbers, named as the RISC-V psABI ("Relocations") has them without `R_RISCV_`;
 -- `abs32` and `abs64` are R_RISCV_32 and R_RISCV_64.
 use Rattle.std.specs.Prelude.{ℕ}

@@ -1,3 +1,4 @@
+-- SPDX-License-Identifier: Apache-2.0
 -- Where the rules on relocation records fail (System V gABI, "Relocation"): a test for each condition, over the tables of the
 -- file that it speaks of. Sums are whole numbers. The conditions are this project's own.
 use Rattle.std.specs.Prelude.{ℕ, ◌+◌, ◌%◌, ◌==◌, ◌&&◌, ◌||◌, nat_lt, nat_le, not, Bool, List, [], ◌∷◌, length, map, filter, get_or}

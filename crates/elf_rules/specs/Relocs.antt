@@ -1,3 +1,4 @@
+-- SPDX-License-Identifier: Apache-2.0
 -- Relocation records (System V gABI, "Relocation"): how they stand in a file, which are taken, and what each says of the
 -- bytes at its place (RISC-V psABI, "Relocations"). Values are whole numbers, which may be negative. Which records are
 -- taken and which are ignored is this project's own.

@@ -1,3 +1,4 @@
+-- SPDX-License-Identifier: Apache-2.0
 -- Spans of addresses, and whether they have bytes in common.
 use Rattle.std.specs.Prelude.{ℕ, ◌+◌, ◌&&◌, ◌||◌, nat_lt, Bool, false, List, [], ◌∷◌}
 use Rattle.std.specs.List.{list_any}

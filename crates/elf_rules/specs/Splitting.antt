@@ -1,3 +1,4 @@
+-- SPDX-License-Identifier: Apache-2.0
 -- The functions that symbols, sections and the entry give, and which one is refused. Symbols are those of the System V
 -- gABI ("Symbol Table"); the rules of splitting are this project's own.
 use Rattle.std.specs.Prelude.{◌≡◌, ◌≤◌, IsTrue, ℕ, ◌+◌, ◌-◌, ◌%◌, ◌==◌, ◌&&◌, ◌||◌, nat_lt, nat_le, not, max, min, Bool, List, [], ◌∷◌, ◌++◌, filter, map, find, get_or, unwrap_or, slice_get, false, Option, Some, None, Result, Ok, Err, if◌then◌else◌, codes}

@@ -1,3 +1,4 @@
+// SPDX-License-Identifier: Apache-2.0
 //! What the rules ask of the parts of a file.
 ghost use Rattle.std.specs.Prelude.{◌≡◌, IfOk, IsTrue, filter};
 ghost use Rattle.elf_rules.specs.Elf as elf;

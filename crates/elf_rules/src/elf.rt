@@ -1,3 +1,4 @@
+// SPDX-License-Identifier: Apache-2.0
 //! Parts of an ELF-64 file as they stand in it (System V gABI, "Program Header", "Section Header", "Symbol
 //! Table").
 use sh_types::{Items, Section};

@@ -1,3 +1,4 @@
+// SPDX-License-Identifier: Apache-2.0
 //! The kinds of relocation records (RISC-V psABI, "Relocations").
 ghost use Rattle.std.specs.Prelude.{◌≡◌};
 ghost use Rattle.elf_rules.specs.Relocs as relocs;

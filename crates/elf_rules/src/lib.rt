@@ -1,3 +1,4 @@
+// SPDX-License-Identifier: Apache-2.0
 //! Parts of ELF-64 files, and why a file is refused; which files can be bound, by which rules, stands in specs/.
 #![tactic(auto)]
 

@@ -1,3 +1,4 @@
+// SPDX-License-Identifier: Apache-2.0
 //! Why a file is refused, and want of memory beside it.
 ghost use Rattle.std.specs.Prelude.{◌≡◌};
 ghost use Rattle.elf_rules.specs.declared.refusals.ElfFault.TheVariants as elf;

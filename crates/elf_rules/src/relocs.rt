@@ -1,3 +1,4 @@
+// SPDX-License-Identifier: Apache-2.0
 //! Relocation records as they stand in a file, and what they say of the bytes at their places (System V gABI,
 //! "Relocation"; RISC-V psABI, "Relocations").
 

@@ -1,3 +1,4 @@
+// SPDX-License-Identifier: Apache-2.0
 //! Where functions start, by the symbols.
 
 /// Where a function starts, by the symbols: its home address, the size that the symbols give, the ends of its

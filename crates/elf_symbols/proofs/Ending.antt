@@ -1,3 +1,4 @@
+-- SPDX-License-Identifier: Apache-2.0
 -- A name ends by a zero byte exactly where it begins before the end of the last one.
 use Rattle.std.proofs.Common.{◌≡◌, ℕ, zero, suc, ◌+◌, ◌<◌, Bool, cond, List, [], ◌∷◌, ◌++◌, length, take, refl, ap, ◌∙◌, arith}
 use Rattle.std.specs.Prelude.{◌==◌, nat_lt, nat_le, not, slice_index}

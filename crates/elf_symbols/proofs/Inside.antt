@@ -1,3 +1,4 @@
+-- SPDX-License-Identifier: Apache-2.0
 -- The symbol table lies in the file where the rule Symbols holds.
 use Rattle.std.proofs.Common.{◌≡◌, ℕ, ◌+◌, ◌≤◌, false, List, length, Option, Some, None, arith}
 use Rattle.std.specs.Prelude.{unwrap_or}

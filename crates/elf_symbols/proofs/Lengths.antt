@@ -1,3 +1,4 @@
+-- SPDX-License-Identifier: Apache-2.0
 -- The section headers are as many as the header says.
 use Rattle.std.proofs.Common.{◌≡◌, ℕ, zero, suc, ◌+◌, List, length, refl, ◌∙◌, arith}
 use Rattle.std.proofs.lemmas.List.{length-map}

@@ -1,3 +1,4 @@
+-- SPDX-License-Identifier: Apache-2.0
 -- A name ends at the first zero byte at its place or behind it.
 use Rattle.std.proofs.Common.{◌≡◌, ℕ, zero, suc, ◌+◌, ◌-◌, ◌<◌, ◌≤◌, Bool, true, false, cond, List, [], ◌∷◌, length, get_or, drop, take, min, add-zero, zero-add, refl, sym, ap, ◌∙◌, arith}
 use Rattle.std.specs.Prelude.{◌==◌, not, take_while}

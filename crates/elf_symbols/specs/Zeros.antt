@@ -1,3 +1,4 @@
+-- SPDX-License-Identifier: Apache-2.0
 -- The zero bytes of a string table.
 use Rattle.std.specs.Prelude.{ℕ, ◌+◌, ◌==◌, nat_lt, List, [], ◌∷◌, if◌then◌else◌}
 

@@ -1,3 +1,4 @@
+// SPDX-License-Identifier: Apache-2.0
 //! Reads the symbols of a file.
 ghost use Rattle.std.specs.Prelude.{◌≡◌, IfOk, false, Err};
 ghost use Rattle.elf_rules.specs.Elf.{sole_table, table_of, raws_of, symbol_names, symbols_of};

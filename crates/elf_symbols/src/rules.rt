@@ -1,3 +1,4 @@
+// SPDX-License-Identifier: Apache-2.0
 //! The rules on symbols and names, each over the parts of a file that it speaks of.
 ghost use Rattle.std.specs.Prelude.{◌≡◌, not, nat_le};
 ghost use Rattle.std.specs.List.{list_any};

@@ -1,3 +1,4 @@
+// SPDX-License-Identifier: Apache-2.0
 //! The symbol table of a file, and its entries.
 ghost use Rattle.std.specs.Prelude.{◌≡◌, ◌+◌, ◌≤◌, ◌/◌, length, filter, map, IfOk};
 ghost use Rattle.elf_rules.specs.Elf as elf;

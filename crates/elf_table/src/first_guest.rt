@@ -1,3 +1,4 @@
+// SPDX-License-Identifier: Apache-2.0
 //! The first guest's file.
 use sample_files::{HOME, Sample, file_of};
 use std::alloc::{AllocError, Global};

@@ -1,3 +1,4 @@
+// SPDX-License-Identifier: Apache-2.0
 //! What is loaded of a file, by values worked out by hand.
 use crate::first_guest::CODE;
 use elf_rules::LoadFault;

@@ -1,3 +1,4 @@
+-- SPDX-License-Identifier: Apache-2.0
 -- The places and the sizes of the parts are numbers of eight bytes.
 use Rattle.std.proofs.Common.{◌≡◌, ℕ, ◌+◌, ◌*◌, ◌^◌, ◌<◌, Bool, true, false, length, refl, arith}
 use Rattle.sh_types.specs.declared.objects.Object.{Object}

@@ -1,3 +1,4 @@
+-- SPDX-License-Identifier: Apache-2.0
 -- How many marks and symbols there are at most, and that the addresses of marks are numbers of eight bytes.
 use Rattle.std.proofs.Common.{ℕ, zero, suc, ◌+◌, ◌<◌, ◌≤◌, ◌^◌, Bool, true, false, List, [], ◌∷◌, length, map, get_or, arith, add-one}
 use Rattle.std.specs.Prelude.{filter, if◌then◌else◌}

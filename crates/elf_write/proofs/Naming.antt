@@ -1,3 +1,4 @@
+-- SPDX-License-Identifier: Apache-2.0
 -- Symbols that were written are read back, with their names.
 use Rattle.std.proofs.Common.{◌≡◌, ℕ, ◌+◌, ◌*◌, ◌/◌, ◌%◌, ◌^◌, ◌<◌, ◌≤◌, Bool, true, cond, List, [], ◌∷◌, ◌++◌, length, get_or, map, take, drop, refl, ap, sym, ◌∙◌, append_assoc, arith}
 use Rattle.std.specs.Prelude.{◌==◌, not, nat_le, take_while, filter, unwrap_or, if◌then◌else◌}

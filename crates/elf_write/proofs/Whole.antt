@@ -1,3 +1,4 @@
+-- SPDX-License-Identifier: Apache-2.0
 -- The object of a source without a fault can be written.
 use Rattle.std.proofs.Common.{◌≡◌, ℕ, zero, suc, ◌+◌, ◌-◌, ◌^◌, ◌<◌, ◌≤◌, Bool, true, false, cond, List, [], ◌∷◌, length, map, get_or, refl, sym, subst, ◌∙◌, arith, add-one}
 use Rattle.std.specs.Prelude.{filter, if◌then◌else◌}

@@ -1,3 +1,4 @@
+-- SPDX-License-Identifier: Apache-2.0
 -- Numbers as a file holds them, the lowest byte first (System V gABI, "Data Representation").
 use Rattle.std.specs.Prelude.{ℕ, zero, suc, ◌/◌, ◌%◌, List, [], ◌∷◌, ◌++◌}
 use Rattle.elf_write.specs.declared.fields.Field.{Field}

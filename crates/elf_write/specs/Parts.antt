@@ -1,3 +1,4 @@
+-- SPDX-License-Identifier: Apache-2.0
 -- Where the parts of the file of an object stand, and their sizes. The code stands at 0x1000 and the data at the next
 -- multiple of 0x1000; their addresses are 0xf000 more. Each part behind them begins at the next multiple of 8.
 use Rattle.std.specs.Prelude.{ℕ, ◌+◌, ◌*◌, Bool, true, false, not, List, [], ◌∷◌, ◌++◌, length, map, filter, codes, nat_le, if◌then◌else◌}

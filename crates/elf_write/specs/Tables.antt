@@ -1,3 +1,4 @@
+-- SPDX-License-Identifier: Apache-2.0
 -- The headers and the entries of tables, field by field (System V gABI, "ELF Header", "Program Header", "Section
 -- Header", "Symbol Table", "Relocation"; RISC-V psABI, "File Header").
 use Rattle.std.specs.Prelude.{ℕ, ◌+◌, ◌*◌, ◌%◌, ◌^◌, List, [], ◌∷◌, ◌++◌, length, if◌then◌else◌}

@@ -1,3 +1,4 @@
+-- SPDX-License-Identifier: Apache-2.0
 -- What objects can be written.
 use Rattle.std.specs.Prelude.{◌-◌, ◌^◌, ◌<◌, ◌≤◌, length, if◌then◌else◌}
 use Rattle.std.specs.List.{All}

@@ -1,3 +1,4 @@
+-- SPDX-License-Identifier: Apache-2.0
 -- The file of an object, part by part (System V gABI, "Object Files"). The layout is this project's own.
 use Rattle.std.specs.Prelude.{ℕ, ◌-◌, Bool, true, false, List, [], ◌∷◌, ◌++◌, length, replicate, slice_index}
 use Rattle.std.specs.List.{concat, flat_map}

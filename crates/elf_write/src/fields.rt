@@ -1,3 +1,4 @@
+// SPDX-License-Identifier: Apache-2.0
 //! Numbers in a file, and the zeros between its parts.
 ghost use Rattle.std.specs.Prelude.{◌≡◌, ◌++◌, ◌-◌, map, length, replicate, OnOk};
 ghost use Rattle.elf_write.specs.Fields.{fields as bytes_of, little, sized};

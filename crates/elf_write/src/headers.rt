@@ -1,3 +1,4 @@
+// SPDX-License-Identifier: Apache-2.0
 //! The headers at the front of the file (System V gABI, "ELF Header", "Program Header"; RISC-V psABI, "File Header").
 ghost use Rattle.std.specs.Prelude.{◌≡◌, ◌++◌, ◌^◌, ◌<◌, OnOk};
 ghost use Rattle.elf_write.specs.Tables.{file_header, program_header};

@@ -1,3 +1,4 @@
+// SPDX-License-Identifier: Apache-2.0
 //! What the file of an object has.
 ghost use Rattle.std.specs.List.{All};
 ghost use Rattle.std.specs.Prelude.{◌≡◌, map, ◌<◌, ◌≤◌, ◌^◌, List, ℕ, None, length};

@@ -1,3 +1,4 @@
+// SPDX-License-Identifier: Apache-2.0
 //! Writes the ELF-64 file of an assembled object (System V gABI, "Object Files").
 #![tactic(auto)]
 

@@ -1,3 +1,4 @@
+// SPDX-License-Identifier: Apache-2.0
 //! The places and the sizes of the parts of a file.
 ghost use Rattle.std.specs.Prelude.{◌≡◌, ◌+◌, ◌*◌, ◌^◌, ◌<◌, filter, length};
 ghost use Rattle.std.specs.List.{concat};

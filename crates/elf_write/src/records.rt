@@ -1,3 +1,4 @@
+// SPDX-License-Identifier: Apache-2.0
 //! Relocation records (System V gABI, "Relocation").
 ghost use Rattle.std.specs.Prelude.{◌≡◌, ◌++◌, ◌+◌, ◌^◌, ◌<◌, filter, IfOk, OnOk};
 ghost use Rattle.std.specs.List.{All};

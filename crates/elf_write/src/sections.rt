@@ -1,3 +1,4 @@
+// SPDX-License-Identifier: Apache-2.0
 //! Section headers (System V gABI, "Section Header").
 ghost use Rattle.std.specs.Prelude.{◌≡◌, ◌++◌, ◌^◌, ◌<◌, OnOk};
 ghost use Rattle.elf_write.specs.Tables.{section_header};

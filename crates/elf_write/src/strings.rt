@@ -1,3 +1,4 @@
+// SPDX-License-Identifier: Apache-2.0
 //! String tables (System V gABI, "String Table").
 ghost use Rattle.std.specs.Prelude.{◌≡◌, ◌++◌, ◌^◌, ◌<◌, length, OnOk};
 ghost use Rattle.elf_write.specs.Parts.{string_table, names_in, section_names};

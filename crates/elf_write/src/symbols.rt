@@ -1,3 +1,4 @@
+// SPDX-License-Identifier: Apache-2.0
 //! The symbol table (System V gABI, "Symbol Table").
 ghost use Rattle.std.specs.Prelude.{◌≡◌, ◌++◌, ◌^◌, ◌<◌, length, OnOk};
 ghost use Rattle.elf_write.specs.Parts.{string_table, names_in};

@@ -1,3 +1,4 @@
+// SPDX-License-Identifier: Apache-2.0
 //! Writes the file.
 ghost use Rattle.std.specs.Prelude.{◌≡◌, ◌++◌, ◌^◌, ◌<◌, ◌∷◌, [], true, false, length, IfOk, OnOk};
 ghost use Rattle.elf_write.specs.Parts.{home_of, marks_in, names_in, parts_of, section_names, string_table};

@@ -1,3 +1,4 @@
+-- SPDX-License-Identifier: Apache-2.0
 -- A function whose words are classed.
 use Rattle.std.specs.Prelude.{◌≡◌, ◌+◌, ◌*◌, ◌<◌, ◌^◌, ◌||◌, ℕ, Bool, List, length}
 use Rattle.std.specs.List.Sorted.{IsNonDecreasing}

@@ -1,3 +1,4 @@
+-- SPDX-License-Identifier: Apache-2.0
 -- Where the jumps and the branches of a function lead to.
 use Rattle.std.specs.Prelude.{◌==◌, ◌+◌, ◌++◌, ℕ, Option, Some, None, List, [], ◌∷◌, if◌then◌else◌}
 use Rattle.std.specs.Option.{option_to_list}

@@ -1,3 +1,4 @@
+// SPDX-License-Identifier: Apache-2.0
 //! A function as its words are classed.
 ghost use Rattle.std.specs.Prelude.{◌≡◌};
 ghost use Rattle.sh_types.specs.declared.code.Site.TheVariants.{Bad};

@@ -1,3 +1,4 @@
+// SPDX-License-Identifier: Apache-2.0
 //! The classes of all words of a function.
 ghost use Rattle.std.specs.Prelude.{◌≡◌, ◌+◌, ◌*◌, ◌<◌, ◌^◌, IfOk, List, Some, length, slice_index};
 ghost use Rattle.sh_types.specs.declared.code.Pair.{Pair};

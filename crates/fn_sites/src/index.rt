@@ -1,3 +1,4 @@
+// SPDX-License-Identifier: Apache-2.0
 //! The records and the labels of an image, sorted once for all functions.
 ghost use Rattle.std.specs.Prelude.{◌≡◌, ◌<◌, ◌≤◌, ◌^◌, ◌&&◌, ◌||◌, ℕ, IfOk, filter};
 ghost use Rattle.std.specs.List.Sorted.{IsNonDecreasing};

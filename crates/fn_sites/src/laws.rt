@@ -1,3 +1,4 @@
+// SPDX-License-Identifier: Apache-2.0
 //! What is true of the list of a function's classes, as clauses of a function that does nothing.
 ghost use Rattle.std.specs.Prelude.{◌≡◌, ◌<◌, ◌≤◌, ℕ, length, slice_index_or};
 ghost use Rattle.sh_types.specs.declared.code.Site.TheVariants.{Plain};

@@ -1,3 +1,4 @@
+// SPDX-License-Identifier: Apache-2.0
 //! The classes of JALR, which with an AUIPC before it may be a call or a tail of two words (RISC-V psABI,
 //! "Relocations", R_RISCV_CALL and R_RISCV_CALL_PLT).
 ghost use Rattle.std.specs.Prelude.{◌≡◌, ◌<◌, ◌==◌, List, Some, length};

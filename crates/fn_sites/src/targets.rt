@@ -1,3 +1,4 @@
+// SPDX-License-Identifier: Apache-2.0
 //! Where the jumps and the branches of a function lead to (RISC-V Unprivileged ISA, "Control Transfer Instructions").
 ghost use Rattle.std.specs.Prelude.{◌≡◌, ◌+◌, ◌*◌, ◌<◌, ◌^◌, ℕ, IfOk, length};
 ghost use Rattle.std.specs.List.Sorted.{IsNonDecreasing};

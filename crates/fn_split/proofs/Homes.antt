@@ -1,3 +1,4 @@
+-- SPDX-License-Identifier: Apache-2.0
 -- Homes rise, hold what the starts hold, and do not depend on the starts' order.
 use Rattle.std.proofs.Common.{◌≡◌, ℕ, ◌<◌, ◌≤◌, Bool, true, false, cond, ◌||◌, List, [], ◌∷◌, refl, sym, ap, ◌∙◌, subst, arith, inl, inr}
 use Rattle.std.specs.Prelude.{◌==◌, nat_lt}

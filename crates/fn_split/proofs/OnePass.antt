@@ -1,3 +1,4 @@
+-- SPDX-License-Identifier: Apache-2.0
 -- One pass over starts in stable order joins those of one home.
 use Rattle.std.proofs.Common.{◌≡◌, ℕ, suc, ◌<◌, ◌≤◌, true, false, cond, ◌&&◌, List, [], ◌∷◌, length, get_or, refl, sym, ap, ◌∙◌, subst, arith}
 use Rattle.std.specs.Prelude.{◌==◌, nat_lt, not, max, map}

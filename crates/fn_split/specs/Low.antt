@@ -1,3 +1,4 @@
+-- SPDX-License-Identifier: Apache-2.0
 -- Starts in sections that a machine can run.
 use Rattle.std.specs.Prelude.{◌≤◌}
 use Rattle.sh_types.specs.Limits.{image_end}

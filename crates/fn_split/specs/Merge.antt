@@ -1,3 +1,4 @@
+-- SPDX-License-Identifier: Apache-2.0
 -- One pass over starts in order of their homes.
 use Rattle.std.specs.Prelude.{◌==◌, max, List, [], ◌∷◌, if◌then◌else◌}
 use Rattle.elf_rules.specs.declared.starts.Start.{Start}

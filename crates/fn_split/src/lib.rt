@@ -1,3 +1,4 @@
+// SPDX-License-Identifier: Apache-2.0
 //! Functions from symbols, sections and the entry. The rules are those of `functions_of` and `split_refusal` in the
 //! definitions of elf_rules.
 #![tactic(auto)]

@@ -1,3 +1,4 @@
+// SPDX-License-Identifier: Apache-2.0
 //! The ranges of functions: starts of one home join, and a size that is not given runs to the next start.
 ghost use Rattle.std.specs.Prelude.{◌≡◌, All, IfOk, IsTrue};
 ghost use Rattle.std.specs.List.{list_any};

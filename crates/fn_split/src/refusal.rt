@@ -1,3 +1,4 @@
+// SPDX-License-Identifier: Apache-2.0
 //! Which function is refused.
 ghost use Rattle.std.specs.Prelude.{◌≡◌, ◌<◌, ◌^◌, All, None};
 ghost use Rattle.elf_rules.specs.declared.starts.Start.{Start};

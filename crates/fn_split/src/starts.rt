@@ -1,3 +1,4 @@
+// SPDX-License-Identifier: Apache-2.0
 //! The starts that symbols give, and the one that is added for the entry.
 ghost use Rattle.std.specs.Prelude.{◌≡◌, All, IfOk, IsTrue};
 ghost use Rattle.std.specs.List.{list_any};

@@ -1,3 +1,4 @@
+-- SPDX-License-Identifier: Apache-2.0
 -- What the table of a function, or its refusal, says: in the words of the frame grammar. This project's own.
 use Rattle.std.specs.Prelude.{◌≡◌, ℕ, ◌+◌, ◌*◌, ◌==◌, Option, List, [], length}
 use Rattle.sh_types.specs.declared.code.FrameState.{FrameState}

@@ -1,3 +1,4 @@
+-- SPDX-License-Identifier: Apache-2.0
 -- A function as the code walks it, and the one that the frame grammar speaks of. This project's own.
 use Rattle.std.specs.Prelude.{◌≡◌, ℕ, ◌<◌, ◌^◌, None, length, slice_index, slice_index_or}
 use Rattle.rv_table.specs.Decoding.{decoded}

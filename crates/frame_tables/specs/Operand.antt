@@ -1,3 +1,4 @@
+-- SPDX-License-Identifier: Apache-2.0
 -- The one number that a word's verdict goes by: that of the register which an `add` adds to sp. This project's own.
 use Rattle.std.specs.Prelude.{ℕ, Bool, ◌==◌, Option, Some, None, Result, List, if◌then◌else◌}
 use Rattle.sh_types.specs.declared.code.FrameState.{FrameState}

@@ -1,3 +1,4 @@
+// SPDX-License-Identifier: Apache-2.0
 //! A function as it is walked.
 use sh_types::{Pair, Site};
 

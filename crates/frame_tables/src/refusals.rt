@@ -1,3 +1,4 @@
+// SPDX-License-Identifier: Apache-2.0
 //! Why a function has no table.
 ghost use Rattle.std.specs.Prelude.{◌≡◌};
 ghost use Rattle.frame_tables.specs.declared.refusals.FrameNo.TheVariants.{NoMemory};

@@ -1,3 +1,4 @@
+-- SPDX-License-Identifier: Apache-2.0
 -- What an accepted file says of its first refusals.
 use Rattle.std.proofs.Common.{◌≡◌, Option, Some, None, refl}
 use Rattle.elf_rules.specs.declared.refusals.LoadFault.{LoadFault}

@@ -1,3 +1,4 @@
+-- SPDX-License-Identifier: Apache-2.0
 -- The function that a record refuses is the one that has the address that the record names; of several records the first
 -- counts.
 use Rattle.std.proofs.Common.{◌≡◌, ◌≢◌, ℕ, suc, ◌+◌, ◌<◌, ◌≤◌, Bool, true, false, Option, Some, None, List, [], ◌∷◌, length, drop, replicate, refl, sym, ap, ◌∙◌, inl, inr, arith}

@@ -1,3 +1,4 @@
+-- SPDX-License-Identifier: Apache-2.0
 -- The numbers that the words of a function give, and what is known of a bound image that is framed. This project's own.
 use Rattle.std.specs.Prelude.{◌≡◌, ℕ, suc, ◌+◌, ◌*◌, ◌<◌, ◌^◌, Option, None, List, [], ◌∷◌, length, slice_index_or, if◌then◌else◌}
 use Rattle.sh_types.specs.declared.code.FrameState.{FrameState}

@@ -1,3 +1,4 @@
+-- SPDX-License-Identifier: Apache-2.0
 -- The first record that refuses each function. This project's own.
 use Rattle.std.specs.Prelude.{◌≡◌, ℕ, ◌==◌, ◌<◌, Option, Some, None, List, [], ◌∷◌, length, slice_index_or, if◌then◌else◌}
 use Rattle.sh_types.specs.declared.code.Function.{Function}

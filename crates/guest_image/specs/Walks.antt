@@ -1,3 +1,4 @@
+-- SPDX-License-Identifier: Apache-2.0
 -- What is known of an image whose functions are walked, and what their walks answer. This project's own.
 use Rattle.std.specs.Prelude.{◌≡◌, ℕ, suc, ◌<◌, ◌^◌, Option, Some, None, Result, Ok, Err, List, [], ◌∷◌, length, map, slice_index_or}
 use Rattle.std.specs.List.Sorted.{IsNonDecreasingBy}

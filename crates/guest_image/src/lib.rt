@@ -1,3 +1,4 @@
+// SPDX-License-Identifier: Apache-2.0
 //! The image of an accepted file, or its first refusal. What is accepted stands in the definition `refusal_of` of
 //! image_rules, and what the image is in `framed_image`. The file is bound by `image_binding`; here each function is walked
 //! by `frame_tables`, and the literals are found.

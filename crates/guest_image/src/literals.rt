@@ -1,3 +1,4 @@
+// SPDX-License-Identifier: Apache-2.0
 //! The numbers that reached AUIPC words give.
 ghost use Rattle.std.specs.Prelude.{◌≡◌, ◌+◌, ◌*◌, ◌<◌, ◌^◌, ◌++◌, IfOk, None, OnOk, length, slice_index_or};
 ghost use Rattle.fn_lookup.specs.Apart.{AreApart};

@@ -1,3 +1,4 @@
+// SPDX-License-Identifier: Apache-2.0
 //! A file becomes an image.
 ghost use Rattle.std.specs.Prelude.{All, ◌≡◌, ◌*◌, ◌<◌, ◌≤◌, ℕ, [], IfOk, length, slice_index, slice_index_or};
 ghost use Rattle.elf_rules.specs.Bindable.{IsBindable, Passes};

@@ -1,3 +1,4 @@
+// SPDX-License-Identifier: Apache-2.0
 //! The first relocation record that refuses each function.
 ghost use Rattle.std.specs.Prelude.{◌≡◌, ◌-◌, ◌<◌, ◌≤◌, ◌^◌, suc, Some, IfOk, IsTrue, length};
 ghost use Rattle.sh_machines.specs.Class as class;

@@ -1,3 +1,4 @@
+// SPDX-License-Identifier: Apache-2.0
 //! Work on numbers, side by side.
 ghost use Rattle.std.specs.Prelude.{⊤, ℕ, List, IfOk};
 ghost use Rattle.std.specs.List.{AllZip};

@@ -1,3 +1,4 @@
+// SPDX-License-Identifier: Apache-2.0
 //! Of regions that rise, those that can have bytes in the words of one of them.
 ghost use Rattle.std.specs.Prelude.{◌≡◌, ℕ, ◌<◌, ◌≤◌, true, Some, length, slice_get};
 ghost use Rattle.guest_mem.specs.First.{first_cell, meets_word, rise_from, stands_from as stands_from_of};

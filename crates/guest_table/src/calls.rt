@@ -1,3 +1,4 @@
+// SPDX-License-Identifier: Apache-2.0
 //! What the tests call of the library, over the first guest's file and under the seed of zeros.
 ghost use Rattle.sh_types.specs.Image.{sizes_of};
 ghost use Rattle.sh_types.specs.Sized.{IsSized};

@@ -1,3 +1,4 @@
+// SPDX-License-Identifier: Apache-2.0
 //! The first guest has two functions, of which the first stores `hi` and a line feed on its stack, calls the second,
 //! and makes the calls 64 and 93: 17 instructions. The places are those of the first layout under the seed of zeros.
 use crate::calls::run_first;

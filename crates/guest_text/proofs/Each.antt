@@ -1,3 +1,4 @@
+-- SPDX-License-Identifier: Apache-2.0
 -- The texts of the numbers from 0 on, one more at a time.
 use Rattle.std.proofs.Common.{◌≡◌, ◌∙◌, ℕ, ◌+◌, List, [], ◌∷◌, ◌++◌, map, sym, ap, append-nil, append_assoc, arith}
 use Rattle.std.specs.List.{concat, range_with_len}

@@ -1,3 +1,4 @@
+-- SPDX-License-Identifier: Apache-2.0
 -- The source of a guest is short.
 use Rattle.std.proofs.Common.{◌≡◌, ◌∙◌, ℕ, zero, suc, ◌+◌, ◌*◌, ◌^◌, ◌<◌, ◌≤◌, List, [], ◌++◌, length, refl, sym, ap, arith, add-one}
 use Rattle.std.specs.Prelude.{codes, decimal}

@@ -1,3 +1,4 @@
+-- SPDX-License-Identifier: Apache-2.0
 -- The source of a guest by a number, in the assembler's language. This project's own program: four harts share the bytes
 -- that it reads, a quarter each. A hart has a sum, 0 at first. For each byte it hands the sum plus the byte to one of the
 -- functions in a table, the one in the row that is the byte modulo the guest's number, and what that returns is the next

@@ -1,3 +1,4 @@
+// SPDX-License-Identifier: Apache-2.0
 //! The source of a guest by a number, in the assembler's language.
 #![tactic(auto)]
 

@@ -1,3 +1,4 @@
+// SPDX-License-Identifier: Apache-2.0
 //! What an instruction of each kind does to a hart and to the words that it sees.
 #![tactic(auto)]
 

@@ -1,3 +1,4 @@
+-- SPDX-License-Identifier: Apache-2.0
 -- A machine whose journal keeps pace, by its pace: which events on layouts it refuses.
 use Rattle.std.proofs.Common.{◌≡◌, ℕ, zero, suc, ◌+◌, ◌-◌, ◌==◌, ◌&&◌, ◌<◌, ◌≤◌, Bool, true, false, not, Option, Some, None, List, [], ◌∷◌, length, refl, sym, ap, ◌∙◌, subst, arith}
 use Rattle.std.specs.Prelude.{if◌then◌else◌, cond, slice_get}

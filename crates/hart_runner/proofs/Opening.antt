@@ -1,3 +1,4 @@
+-- SPDX-License-Identifier: Apache-2.0
 -- A machine that has done nothing.
 use Rattle.std.proofs.Common.{◌≡◌, ℕ, List, [], refl, sym, ap, subst}
 use Rattle.sh_types.specs.declared.runs.Event.{Event}

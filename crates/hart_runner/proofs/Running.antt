@@ -1,3 +1,4 @@
+-- SPDX-License-Identifier: Apache-2.0
 -- The serial order from where a machine stands: what is still to come, and that the journal keeps pace.
 use Rattle.std.proofs.Common.{◌≡◌, ℕ, ◌+◌, ◌-◌, ◌*◌, ◌^◌, ◌≤◌, ◌<◌, true, false, List, sym, ap, ◌∙◌, subst, arith, mul-le-mul_right}
 use Rattle.sh_types.specs.declared.runs.Event.{Event}

@@ -1,3 +1,4 @@
+-- SPDX-License-Identifier: Apache-2.0
 -- How what is still to come of a list of events shrinks.
 use Rattle.std.proofs.Common.{◌≡◌, List, [], ◌∷◌, ◌++◌, Result, Ok, Err, OnOk, OnErr, refl, sym, ap, ◌∙◌, subst, append_assoc, append-nil}
 use Rattle.sh_types.specs.declared.code.Image.{Image}

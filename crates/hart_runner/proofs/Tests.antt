@@ -1,3 +1,4 @@
+-- SPDX-License-Identifier: Apache-2.0
 -- What the two tests of a conjunction say, and an end that has not come.
 use Rattle.std.proofs.Common.{◌≡◌, Bool, true, Option, Some, None, refl, arith}
 use Rattle.std.specs.Prelude.{◌&&◌}

@@ -1,3 +1,4 @@
+-- SPDX-License-Identifier: Apache-2.0
 -- The schedule of a plan.
 use Rattle.sh_machines.specs.Serial.{Schedule}
 use Rattle.hart_runner.specs.declared.plan.Plan.{Plan}

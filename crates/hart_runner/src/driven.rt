@@ -1,3 +1,4 @@
+// SPDX-License-Identifier: Apache-2.0
 //! A machine by what its journal says: where it stands in the serial order, and its next events.
 ghost use Rattle.std.specs.Prelude.{◌≡◌, ◌+◌, ◌<◌, ◌≤◌, ◌^◌, true, false, IfOk, OnErr};
 ghost use Rattle.sh_machines.specs.Serial.{run_length};

@@ -1,3 +1,4 @@
+// SPDX-License-Identifier: Apache-2.0
 //! Which harts can go, and whose turn is next.
 ghost use Rattle.std.specs.Prelude.{◌≡◌, ℕ, ◌<◌, ◌≤◌, true, false, IfSome, IfNone, slice_get};
 ghost use Rattle.std.specs.Option.{option_copied};

@@ -1,3 +1,4 @@
+// SPDX-License-Identifier: Apache-2.0
 //! The events on layouts of a machine whose journal keeps pace, as the serial order wants them.
 ghost use Rattle.std.specs.Prelude.{◌≡◌, ℕ, ◌+◌, ◌-◌, ◌<◌, ◌^◌, [], true, false, Some, OnOk, OnErr, slice_get};
 ghost use Rattle.std.specs.Option.{option_copied};

@@ -1,3 +1,4 @@
+// SPDX-License-Identifier: Apache-2.0
 //! How machines are driven: the serial order.
 #![tactic(auto)]
 

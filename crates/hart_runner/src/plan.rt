@@ -1,3 +1,4 @@
+// SPDX-License-Identifier: Apache-2.0
 //! How a run is to go.
 ghost use Rattle.std.specs.Prelude.{◌≡◌, ◌≤◌};
 ghost use Rattle.sh_machines.specs.Serial.{turn_limit};

@@ -1,3 +1,4 @@
+// SPDX-License-Identifier: Apache-2.0
 //! The serial order.
 ghost use Rattle.std.specs.Prelude.{◌≡◌, ◌+◌, ◌-◌, ◌<◌, ◌≤◌, ◌^◌, [], true, false, OnOk, OnErr};
 ghost use Rattle.sh_machines.specs.Pace.{IsPaced, live_from};

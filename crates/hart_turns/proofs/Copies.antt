@@ -1,3 +1,4 @@
+-- SPDX-License-Identifier: Apache-2.0
 -- The words of a copy.
 use Rattle.std.proofs.Common.{◌≡◌, ℕ, ◌+◌, ◌-◌, ◌*◌, ◌/◌, ◌<◌, true, Option, Some, None, List, ap, ◌∙◌, subst, refl, sym, arith}
 use Rattle.std.specs.Prelude.{slice_index}

@@ -1,3 +1,4 @@
+-- SPDX-License-Identifier: Apache-2.0
 -- Instructions that end a hart or the run.
 use Rattle.std.proofs.Common.{◌≡◌, ℕ, Bool, true, false, Some, refl, sym, ap, ◌∙◌, subst}
 use Rattle.std.specs.Prelude.{slice_get, slice_set, ◌&&◌}

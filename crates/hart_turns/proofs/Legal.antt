@@ -1,3 +1,4 @@
+-- SPDX-License-Identifier: Apache-2.0
 -- A legal list of events, and one event more.
 use Rattle.std.proofs.Common.{◌≡◌, List, [], ◌∷◌, ◌++◌, refl}
 use Rattle.sh_types.specs.declared.runs.Event.{Event}

@@ -1,3 +1,4 @@
+-- SPDX-License-Identifier: Apache-2.0
 -- One more instruction of a hart.
 use Rattle.std.proofs.Common.{◌≡◌, ℕ, zero, suc, ◌+◌, ◌<◌, true, false, List, [], ◌++◌, Option, Some, None, refl, sym, ap, ◌∙◌, arith, append_assoc, append-nil}
 use Rattle.std.specs.Prelude.{slice_get, nat_lt, ◌&&◌, Bool}

@@ -1,3 +1,4 @@
+-- SPDX-License-Identifier: Apache-2.0
 -- Environment calls, as the machine does them. This project's own.
 use Rattle.std.specs.Prelude.{◌≡◌, ℕ, ◌<◌, ◌≤◌, Bool, true, Option, Some, None, IsSome, List, [], ◌∷◌, ◌++◌, length, map, take, drop, slice_set}
 use Rattle.sh_types.specs.declared.code.Region.{Region}

@@ -1,3 +1,4 @@
+-- SPDX-License-Identifier: Apache-2.0
 -- What the laws of both machines say of every list of events that is legal in a setting. This project's own.
 use Rattle.std.specs.Prelude.{◌≡◌, ℕ, ℤ, ◌/◌, ◌≤◌, true, List, Some, length, slice_get, slice_index}
 use Rattle.sh_types.specs.declared.layouts.Layout.{Layout}

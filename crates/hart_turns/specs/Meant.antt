@@ -1,3 +1,4 @@
+-- SPDX-License-Identifier: Apache-2.0
 -- What the code and the state of a run mean, and what holds of them while harts run. This project's own.
 use Rattle.std.specs.Prelude.{◌≡◌, ℕ, ◌-◌, Bool, true, false, Option, Some, None, drop}
 use Rattle.sh_types.specs.declared.code.Image.{Image}

@@ -1,3 +1,4 @@
+-- SPDX-License-Identifier: Apache-2.0
 -- The next instruction of a hart, and how the code does it. This project's own.
 use Rattle.std.specs.Prelude.{◌≡◌, ℕ, ℤ, ◌<◌, ◌≤◌, ◌/◌, ◌^◌, ◌&&◌, ◌||◌, ◌==◌, not, Bool, true, false, Option, Some, None, is_some, List, [], ◌∷◌, length, slice_get, slice_index}
 use Rattle.sh_types.specs.declared.layouts.CodeCopy.{CodeCopy}

@@ -1,3 +1,4 @@
+-- SPDX-License-Identifier: Apache-2.0
 -- The instructions of one Run event, and the words that they ask a Fetch for. This project's own.
 use Rattle.std.specs.Prelude.{◌≡◌, ℕ, zero, suc, ◌&&◌, nat_lt, Option, Some, None, List, [], ◌∷◌, ◌++◌, slice_get, if◌then◌else◌}
 use Rattle.sh_types.specs.declared.fetching.Fetched.{Fetched}

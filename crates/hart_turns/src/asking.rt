@@ -1,3 +1,4 @@
+// SPDX-License-Identifier: Apache-2.0
 //! What an environment call asks of the machine.
 ghost use Rattle.std.specs.Prelude.{◌≡◌, ◌+◌, ◌<◌, ◌≤◌, ◌^◌, ◌++◌, true, Some, [], drop, length, slice_get, IfOk, OnOk, OnErr};
 ghost use Rattle.sh_types.specs.Limits.{most_harts};

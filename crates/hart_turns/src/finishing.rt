@@ -1,3 +1,4 @@
+// SPDX-License-Identifier: Apache-2.0
 //! Instructions that end a hart or the run.
 ghost use Rattle.std.specs.Prelude.{◌≡◌, ◌-◌, ◌<◌, ◌^◌, ◌%◌, None, true, false, vec_len};
 ghost use Rattle.guest_mem.specs.Held.{regions_of};

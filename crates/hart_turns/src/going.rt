@@ -1,3 +1,4 @@
+// SPDX-License-Identifier: Apache-2.0
 //! Which harts can go, and what they run from.
 ghost use Rattle.std.specs.Prelude.{◌≡◌, ◌<◌, true, None, Some, slice_get, vec_len};
 ghost use Rattle.sh_machines.specs.Event.{can_run};

@@ -1,3 +1,4 @@
+// SPDX-License-Identifier: Apache-2.0
 //! Instructions of one hart, run from the copies of the layouts that are live.
 #![tactic(auto)]
 

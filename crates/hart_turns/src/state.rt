@@ -1,3 +1,4 @@
+// SPDX-License-Identifier: Apache-2.0
 //! The code that harts run, and what instructions change.
 use guest_mem::GuestMem;
 use hart_unwinder::Slots;

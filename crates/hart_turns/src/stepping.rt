@@ -1,3 +1,4 @@
+// SPDX-License-Identifier: Apache-2.0
 //! Instructions of one hart, from the copy of the layout that it is on.
 ghost use Rattle.std.specs.Prelude.{◌≡◌, ◌+◌, ◌-◌, ◌<◌, ◌≤◌, ◌^◌, true, false, [], None, IfNone, IfOk, IfSome, OnErr, slice_get, vec_len};
 ghost use Rattle.guest_mem.specs.Held.{regions_of};

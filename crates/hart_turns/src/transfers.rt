@@ -1,3 +1,4 @@
+// SPDX-License-Identifier: Apache-2.0
 //! Bytes that environment calls write and read.
 ghost use Rattle.std.specs.Prelude.{◌≡◌, ◌++◌, true, [], length, length as length_of, IsSome, OnOk, OnErr, unwrap_or};
 ghost use Rattle.guest_mem.specs.Held.{words_of, plain_of, regions_of};

@@ -1,3 +1,4 @@
+-- SPDX-License-Identifier: Apache-2.0
 -- The classes of one function more.
 use Rattle.std.proofs.Common.{◌≡◌, ℕ, zero, suc, ◌+◌, ◌<◌, ◌≤◌, List, [], ◌∷◌, ◌++◌, length, drop, append_assoc, refl, sym, ap, ◌∙◌, arith, add-one}
 use Rattle.std.specs.Prelude.{IfOk, Result, Ok, Err, get_or, slice_index_or}

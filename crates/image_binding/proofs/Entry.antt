@@ -1,3 +1,4 @@
+-- SPDX-License-Identifier: Apache-2.0
 -- The number of the function at the entry, by its place among the functions.
 use Rattle.std.proofs.Common.{◌≡◌, ℕ, suc, ◌+◌, Bool, true, cond, Option, Some, None, List, [], ◌∷◌, length, refl, sym, ap, ◌∙◌, arith, inl, inr}
 use Rattle.std.specs.Prelude.{◌==◌, nat_lt, position}

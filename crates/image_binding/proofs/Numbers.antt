@@ -1,3 +1,4 @@
+-- SPDX-License-Identifier: Apache-2.0
 -- The number of the bytes that a record takes, by how many they are.
 use Rattle.std.proofs.Common.{◌≡◌, ◌≢◌, ◌⊎◌, inl, inr, ℕ, ◌+◌, ◌≤◌, List, length, refl, sym, ap, ◌∙◌, arith}
 use Rattle.std.proofs.lemmas.Bool.{cond_both}

@@ -1,3 +1,4 @@
+-- SPDX-License-Identifier: Apache-2.0
 -- What holds of the segments and sections of a file holds of those in order.
 use Rattle.std.proofs.Common.{◌≡◌, ℕ, cond, List, [], ◌∷◌, All, ap, subst, sym}
 use Rattle.std.specs.Prelude.{nat_le, map, filter}

@@ -1,3 +1,4 @@
+-- SPDX-License-Identifier: Apache-2.0
 -- The places of words, one more at the front; and how many there are.
 use Rattle.std.proofs.Common.{◌≡◌, ℕ, zero, suc, ◌^◌, length, refl, ◌+◌, ◌-◌, ◌<◌, ◌≤◌, ◌∷◌, ◌*◌, mul-suc, ap, sym, ◌∙◌, ◌++◌, List, [], append_assoc, arith}
 use Rattle.std.specs.Prelude.{◌/◌, map}

@@ -1,3 +1,4 @@
+-- SPDX-License-Identifier: Apache-2.0
 -- How the refusals of one step and of the steps behind it join.
 use Rattle.std.proofs.Common.{◌≡◌, ℕ, List, length, Option, Some, None, Result, refl, ap, ◌∙◌, subst}
 use Rattle.sh_types.specs.declared.code.Function.{Function}

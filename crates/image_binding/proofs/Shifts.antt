@@ -1,3 +1,4 @@
+-- SPDX-License-Identifier: Apache-2.0
 -- A byte of a number by a shift.
 use Rattle.std.proofs.Common.{◌≡◌, ℕ, zero, suc, ◌*◌, ◌<◌, ◌^◌, refl, arith}
 

@@ -1,3 +1,4 @@
+-- SPDX-License-Identifier: Apache-2.0
 -- The regions of a file with tokens in any order.
 use Rattle.std.proofs.Common.{◌≡◌, ℕ, ◌+◌, List, [], ◌∷◌, ◌++◌, refl, ap, ◌∙◌}
 use Rattle.std.specs.Prelude.{find, map}

@@ -1,3 +1,4 @@
+-- SPDX-License-Identifier: Apache-2.0
 -- The first stack, as it is made.
 use Rattle.std.proofs.Common.{◌≡◌, ℕ, true, ap}
 use Rattle.std.specs.Prelude.{replicate}

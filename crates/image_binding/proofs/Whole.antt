@@ -1,3 +1,4 @@
+-- SPDX-License-Identifier: Apache-2.0
 -- The image from its parts.
 use Rattle.std.proofs.Common.{◌≡◌, ℕ, suc, List, [], ◌∷◌, refl, sym, ap, subst, ◌∙◌}
 use Rattle.std.specs.Prelude.{map, slice_index_or, unwrap_or}

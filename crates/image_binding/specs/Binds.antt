@@ -1,3 +1,4 @@
+-- SPDX-License-Identifier: Apache-2.0
 -- What binds an image: functions, records and labels, with an index of both; and tokens that are put into bytes. This
 -- project's own.
 use Rattle.std.specs.Prelude.{◌≡◌, ◌+◌, ◌*◌, ◌<◌, ◌≤◌, ◌^◌, ℕ, List, [], find, length, slice_index, slice_index_or}

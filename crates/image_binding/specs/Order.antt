@@ -1,3 +1,4 @@
+-- SPDX-License-Identifier: Apache-2.0
 -- Sections and segments by rising addresses, and where they start and end. This project's own.
 use Rattle.std.specs.Prelude.{◌+◌, ◌<◌, ◌≤◌, ℕ, List, length, slice_index_or}
 use Rattle.sh_types.specs.Limits.{image_end}

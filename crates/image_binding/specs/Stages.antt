@@ -1,3 +1,4 @@
+-- SPDX-License-Identifier: Apache-2.0
 -- The refusals of a file in parts. This project's own.
 use Rattle.std.specs.Prelude.{◌≡◌, ◌≤◌, ℕ, List, length, Option, None}
 use Rattle.sh_types.specs.declared.code.Function.{Function}

@@ -1,3 +1,4 @@
+// SPDX-License-Identifier: Apache-2.0
 //! Whether the relocation records of a file agree with the bytes at their places.
 ghost use Rattle.std.specs.Prelude.{◌≡◌, ⊤, All, None};
 ghost use Rattle.load_law.specs.Placed.{HasBytes};

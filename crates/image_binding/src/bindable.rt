@@ -1,3 +1,4 @@
+// SPDX-License-Identifier: Apache-2.0
 //! The order in which a file is refused before its frames are looked at, and what is read of one that is not.
 ghost use Rattle.std.specs.Prelude.{◌≡◌, ◌≤◌, All, IsTrue, None, length};
 ghost use Rattle.std.specs.List.{list_any};

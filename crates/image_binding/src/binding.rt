@@ -1,3 +1,4 @@
+// SPDX-License-Identifier: Apache-2.0
 //! What binds the words and the data of an image.
 ghost use Rattle.std.specs.Prelude.{◌≡◌, ◌<◌, ◌^◌, All, IfOk, length, ◌++◌};
 ghost use Rattle.std.specs.List.Sorted.{IsNonDecreasingBy};

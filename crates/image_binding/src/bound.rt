@@ -1,3 +1,4 @@
+// SPDX-License-Identifier: Apache-2.0
 //! A file becomes a bound image.
 ghost use Rattle.std.specs.Prelude.{◌≡◌};
 ghost use Rattle.elf_rules.specs.declared.refusals.LoadFault.TheVariants as load;

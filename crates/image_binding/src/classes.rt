@@ -1,3 +1,4 @@
+// SPDX-License-Identifier: Apache-2.0
 //! The classes of the words of all functions.
 ghost use Rattle.std.specs.Prelude.{◌≡◌, ◌<◌, IfOk, length};
 ghost use Rattle.image_rules.specs.Bound.{classes_of, sites_from};

@@ -1,3 +1,4 @@
+// SPDX-License-Identifier: Apache-2.0
 //! The bound image of a file.
 ghost use Rattle.std.specs.Prelude.{◌≡◌, ◌≤◌, IfOk, None, length, map, unwrap_or};
 ghost use Rattle.elf_rules.specs.Bindable.{codes_in_order, entry_number, file_functions};

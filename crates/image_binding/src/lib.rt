@@ -1,3 +1,4 @@
+// SPDX-License-Identifier: Apache-2.0
 //! The bound image of a file, or its first refusal before frames. What can be bound stands in the definition
 //! `binding_refusal` of elf_rules, and what the image is in `bound_image` of image_rules. The rules of the file are tested
 //! by `elf_read`, `elf_symbols` and `rv_relocs`, those on functions by `fn_split`; here they are put in their order, with

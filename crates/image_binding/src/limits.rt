@@ -1,3 +1,4 @@
+// SPDX-License-Identifier: Apache-2.0
 //! What is limited, and the answer where there is more.
 ghost use Rattle.std.specs.Prelude.{◌≡◌, ◌≤◌, ◌<◌, ◌^◌, ⊤, length};
 ghost use Rattle.sh_types.specs.Limits.{most_code, most_functions, most_mapped};

@@ -1,3 +1,4 @@
+// SPDX-License-Identifier: Apache-2.0
 //! The readable bytes of a file: its segments without their code, with tokens put in, and the first stack.
 ghost use Rattle.std.specs.Prelude.{◌≡◌, ◌∷◌, ◌++◌, [], ◌-◌, ◌<◌, ◌≤◌, All, IfOk, OnOk, length, map, replicate};
 ghost use Rattle.std.specs.List.Sorted.{IsNonDecreasingBy};

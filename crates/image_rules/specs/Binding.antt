@@ -1,3 +1,4 @@
+-- SPDX-License-Identifier: Apache-2.0
 -- What stands for code in the words and the data of an image: the functions whose address is taken (rows), the places inside
 -- functions that data names (labels), and the numbers that records put into words and data. The kinds of records and their
 -- values are those of the RISC-V psABI ("Relocations"), the fields of words those of the RISC-V Unprivileged ISA

@@ -1,3 +1,4 @@
+-- SPDX-License-Identifier: Apache-2.0
 -- The bound image of a file: in its words and its data tokens stand in place of addresses of code, by the file's relocation
 -- records (System V gABI, "Relocation"; RISC-V psABI, "Relocations"), and each word has its class. Numbers in data have their
 -- lowest byte first. Tokens and classes are this project's own.

@@ -1,3 +1,4 @@
+-- SPDX-License-Identifier: Apache-2.0
 -- Which files are accepted, and the image of such a file: the bound image with the rows of each function's frame, which the
 -- walk of the frame grammar finds, and the numbers that its reached AUIPC words give; and which function is refused, and
 -- why. This project's own; AUIPC is that of the RISC-V Unprivileged ISA ("Integer Computational Instructions").

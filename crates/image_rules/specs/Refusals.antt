@@ -1,3 +1,4 @@
+-- SPDX-License-Identifier: Apache-2.0
 -- The records that refuse a function before its words are looked at. Their kinds are those of the RISC-V psABI
 -- ("Relocations"); the rules are this project's own.
 use Rattle.std.specs.Prelude.{ℕ, ◌-◌, ◌%◌, ◌==◌, ◌&&◌, not, Bool, false, Option, Some, None, List, [], ◌∷◌, if◌then◌else◌}

@@ -1,3 +1,4 @@
+// SPDX-License-Identifier: Apache-2.0
 //! Tokens in data.
 
 /// A number that stands for code in data, where an address stood: its address, how many bytes it takes there, and the

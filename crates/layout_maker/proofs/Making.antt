@@ -1,3 +1,4 @@
+-- SPDX-License-Identifier: Apache-2.0
 -- The parts of a layout put together.
 use Rattle.std.proofs.Common.{◌≡◌, ℕ, ◌+◌, ◌-◌, ◌*◌, ◌<◌, List, [], ◌∷◌, ◌++◌, subst, sym, ap, ◌∙◌, arith, length}
 use Rattle.rand_chacha.specs.ChaCha.{ChaCha}

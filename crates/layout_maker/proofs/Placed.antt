@@ -1,3 +1,4 @@
+-- SPDX-License-Identifier: Apache-2.0
 -- A layout is well placed.
 use Rattle.std.proofs.Common.{◌≡◌, ◌≢◌, ◌⊎◌, inl, inr, ℕ, zero, suc, ◌+◌, ◌-◌, ◌*◌, ◌/◌, ◌%◌, ◌<◌, ◌≤◌, List, [], ◌∷◌, refl, sym, ap, ◌∙◌, subst, arith, length, Bool, true, false, take, sum_by, replicate, get_or-set_same, get_or-set_other, suc-mul, div-mul-le_self, mul_comm, take_all}
 use Rattle.std.specs.Prelude.{slice_index, slice_set, ◌==◌}

@@ -1,3 +1,4 @@
+-- SPDX-License-Identifier: Apache-2.0
 -- The places, one after another.
 use Rattle.std.proofs.Common.{◌≡◌, ℕ, zero, suc, ◌+◌, ◌%◌, ◌≤◌, List, refl, ◌∙◌, arith, length, add-one, length-set, replicate}
 use Rattle.std.specs.Prelude.{slice_index, slice_set}

@@ -1,3 +1,4 @@
+-- SPDX-License-Identifier: Apache-2.0
 -- The cells of the layouts: one of those that none of the last layouts had. This project's own rule.
 use Rattle.std.specs.Prelude.{ℕ, zero, suc, ◌+◌, ◌-◌, ◌%◌, ◌==◌, Bool, List, [], ◌∷◌, ◌++◌, length, not, slice_index}
 use Rattle.std.specs.List.{filter, list_any, range_with_len}

@@ -1,3 +1,4 @@
+-- SPDX-License-Identifier: Apache-2.0
 -- The 64-bit draws of a generator of 32-bit words, the low word first (ChaCha with 20 rounds, that is 10
 -- double rounds, a 64-bit counter and a 64-bit stream number: D. J. Bernstein, "ChaCha, a variant of Salsa20").
 use Rattle.std.specs.Prelude.{ℕ, ◌+◌, ◌-◌, ◌*◌, ◌^◌, List}

@@ -1,3 +1,4 @@
+-- SPDX-License-Identifier: Apache-2.0
 -- The layout rule, this project's own: which cell, where in it each function lies, and the keys of the harts, by
 -- the draws of a stream.
 use Rattle.std.specs.Prelude.{ℕ, ◌-◌, ◌*◌, List, length, map}

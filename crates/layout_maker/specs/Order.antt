@@ -1,3 +1,4 @@
+-- SPDX-License-Identifier: Apache-2.0
 -- The order of the functions, by the shuffle of R. A. Fisher and F. Yates in R. Durstenfeld's form
 -- (Communications of the ACM 7, 1964, Algorithm 235).
 use Rattle.std.specs.Prelude.{ℕ, zero, suc, ◌-◌, ◌%◌, List, swap}

@@ -1,3 +1,4 @@
+-- SPDX-License-Identifier: Apache-2.0
 -- Where the functions lie: one behind the other, each after a gap, with a guard of 4 bytes behind it. This
 -- project's own rule.
 use Rattle.std.specs.Prelude.{ℕ, zero, suc, ◌+◌, ◌-◌, ◌*◌, ◌/◌, ◌%◌, List, length, replicate, slice_index, slice_set}

@@ -1,3 +1,4 @@
+// SPDX-License-Identifier: Apache-2.0
 //! The cell of a layout.
 ghost use Rattle.std.specs.Prelude.{◌≡◌, ◌≤◌, ◌-◌, ◌%◌, length, slice_index};
 ghost use Rattle.sh_types.specs.Limits.{cell_count, recent_cells};

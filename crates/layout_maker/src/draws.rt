@@ -1,3 +1,4 @@
+// SPDX-License-Identifier: Apache-2.0
 //! The draws of 64 bits from the stream of a layout.
 ghost use Rattle.std.specs.Prelude.{◌≡◌, ◌*◌, ◌<◌, ◌^◌};
 ghost use Rattle.layout_maker.specs.Draws.{draws_of, skip, generator_of};

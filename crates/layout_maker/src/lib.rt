@@ -1,3 +1,4 @@
+// SPDX-License-Identifier: Apache-2.0
 //! Layouts, made from the words of a stream: the cell, the places of the functions in it, and the keys.
 #![tactic(auto)]
 

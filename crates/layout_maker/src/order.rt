@@ -1,3 +1,4 @@
+// SPDX-License-Identifier: Apache-2.0
 //! The order in which the functions lie.
 ghost use Rattle.std.specs.Prelude.{◌≡◌, ◌+◌, ◌-◌, ◌≤◌, ◌<◌, ◌^◌, IfOk, length, ℕ, slice_index};
 ghost use Rattle.std.specs.List.{range_with_len};

@@ -1,3 +1,4 @@
+// SPDX-License-Identifier: Apache-2.0
 //! The places of the functions.
 ghost use Rattle.std.specs.Prelude.{◌≡◌, ◌+◌, ◌-◌, ◌*◌, ◌≤◌, ◌<◌, ◌^◌, IfOk, length, ℕ, slice_index};
 ghost use Rattle.sh_types.specs.Limits.{cell_size, most_functions};

@@ -1,3 +1,4 @@
+-- SPDX-License-Identifier: Apache-2.0
 -- What follows a word of a bound image lies in its function or right behind it, so that the walk of each function answers
 -- rightly.
 use Rattle.std.proofs.Common.{◌≡◌, ℕ, suc, ◌+◌, ◌*◌, ◌/◌, ◌<◌, ◌≤◌, true, Some, List, [], ◌∷◌, length, refl, sym, ap, ◌∙◌, subst, arith}

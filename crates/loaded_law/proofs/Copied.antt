@@ -1,3 +1,4 @@
+-- SPDX-License-Identifier: Apache-2.0
 -- A copy of the framed image of an accepted file can be made.
 use Rattle.std.proofs.Common.{◌≡◌, ℕ, ◌+◌, ◌*◌, ◌/◌, ◌%◌, ◌<◌, ◌≤◌, true, List, [], ◌∷◌, length, refl, sym, ap, subst, arith}
 use Rattle.std.specs.Prelude.{slice_index}

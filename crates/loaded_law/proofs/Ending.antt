@@ -1,3 +1,4 @@
+-- SPDX-License-Identifier: Apache-2.0
 -- A walk that ends has a row for each word, and one for the point behind the last.
 use Rattle.std.proofs.Common.{◌≡◌, ℕ, zero, suc, ◌+◌, Bool, Option, Some, None, List, [], ◌∷◌, length, replicate, ◌∙◌, subst, length-set}
 use Rattle.std.proofs.lemmas.Bool.{cond_both}

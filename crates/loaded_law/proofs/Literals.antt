@@ -1,3 +1,4 @@
+-- SPDX-License-Identifier: Apache-2.0
 -- Literals: there are no more of them than words of code, and each stands under its number.
 use Rattle.std.proofs.Common.{◌≡◌, ℕ, zero, suc, ◌+◌, ◌*◌, ◌/◌, ◌<◌, ◌≤◌, Bool, true, false, Some, List, [], ◌∷◌, ◌++◌, length, get_or, take, refl, sym, ap, ◌∙◌, subst, arith, length-append}
 use Rattle.std.specs.Prelude.{slice_get, slice_index, if◌then◌else◌}

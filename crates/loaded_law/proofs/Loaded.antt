@@ -1,3 +1,4 @@
+-- SPDX-License-Identifier: Apache-2.0
 -- The framed image of an accepted file in which no function is refused is as loading finds it.
 use Rattle.std.proofs.Common.{◌≡◌, ◌≢◌, ◌⊎◌, inl, inr, ℕ, ◌+◌, ◌%◌, ◌<◌, ◌≤◌, true, Some, None, List, [], length, sym, ap, ◌∙◌, subst, arith}
 use Rattle.std.specs.Prelude.{◌==◌, slice_get, slice_index, slice_index_or}

@@ -1,3 +1,4 @@
+-- SPDX-License-Identifier: Apache-2.0
 -- The regions of the bound image of an accepted file end where the first stack does, or before.
 use Rattle.std.proofs.Common.{◌≡◌, ℕ, zero, suc, ◌+◌, ◌<◌, ◌≤◌, Some, List, [], ◌∷◌, ◌++◌, length, get_or, refl, sym, ap, ◌∙◌, subst, arith, length-append}
 use Rattle.std.specs.Prelude.{map, slice_get}

@@ -1,3 +1,4 @@
+-- SPDX-License-Identifier: Apache-2.0
 -- Classes: direct calls and jumps name functions, and an indirect one is that of a JALR.
 use Rattle.std.proofs.Common.{◌≡◌, ◌⊎◌, inl, inr, ℕ, zero, suc, ◌+◌, ◌-◌, ◌*◌, ◌/◌, ◌≤◌, Bool, true, false, Option, Some, None, List, [], ◌∷◌, length, refl, sym, ◌∙◌, subst, arith}
 use Rattle.std.specs.Prelude.{◌==◌, ◌&&◌, not, slice_index, slice_index_or, if◌then◌else◌}

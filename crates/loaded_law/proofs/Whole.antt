@@ -1,3 +1,4 @@
+-- SPDX-License-Identifier: Apache-2.0
 -- The framed image of a bindable file has the words of its functions, and regions that rise, share no byte and are full.
 use Rattle.std.proofs.Common.{◌≡◌, inl, inr, ℕ, ◌*◌, ◌<◌, ◌≤◌, List, [], length, get_or, refl, sym, ap, ◌∙◌, subst, arith}
 use Rattle.std.specs.Prelude.{All, slice_index, slice_index_or}

@@ -1,3 +1,4 @@
+// SPDX-License-Identifier: Apache-2.0
 //! A word of the cipher, from an independent program.
 use return_cipher::{seal, unseal};
 

@@ -1,3 +1,4 @@
+// SPDX-License-Identifier: Apache-2.0
 //! The copy of the first guest under the seed of zeros. Its words are from an independent program.
 ghost use Rattle.std.specs.Prelude.{◌≡◌, IfOk};
 ghost use Rattle.sh_types.specs.Image.{sizes_of};

@@ -1,3 +1,4 @@
+// SPDX-License-Identifier: Apache-2.0
 //! The first layouts under the seed of zeros, by values from an independent program.
 use layout_maker::{cell_at, make_layout, recent_cells_are_counted};
 use sh_types::{Layout, NoMemory};

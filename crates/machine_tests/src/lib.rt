@@ -1,3 +1,4 @@
+// SPDX-License-Identifier: Apache-2.0
 //! Tests of the parts of the machine: layouts, copies and the cipher of return words.
 #![tactic(auto)]
 

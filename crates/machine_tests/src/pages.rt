@@ -1,3 +1,4 @@
+// SPDX-License-Identifier: Apache-2.0
 //! The pages of a guest's memory: eight bytes of data at 0x11000, and the first stack.
 ghost use Rattle.std.specs.Prelude.{◌≡◌, ◌<◌};
 ghost use Rattle.sh_machines.specs.Fine.{IsFine};

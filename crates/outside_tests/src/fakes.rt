@@ -1,3 +1,4 @@
+// SPDX-License-Identifier: Apache-2.0
 //! Files and sinks in memory, with calls that fail by their number.
 use sh_base::{FileFault, Files, MemFiles, MemSink, Sink, SinkFailed};
 use sh_types::{Bytes, Items, Name};

@@ -1,3 +1,4 @@
+// SPDX-License-Identifier: Apache-2.0
 //! The files of the system.
 use sh_base::{FileFault, Files, RealFiles};
 use std::test::Fail;

@@ -1,3 +1,4 @@
+// SPDX-License-Identifier: Apache-2.0
 //! Tests of files and sinks, those of the system and those in memory.
 #![tactic(auto)]
 

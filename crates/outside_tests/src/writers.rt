@@ -1,3 +1,4 @@
+// SPDX-License-Identifier: Apache-2.0
 //! Sinks over the system's writers, and over one that halts.
 use std::io;
 use std::io::{ErrorKind, Write};

@@ -1,3 +1,4 @@
+-- SPDX-License-Identifier: Apache-2.0
 -- A serial run, computed.
 use Rattle.std.proofs.Common.{◌≡◌, Some, [], ◌∷◌, length, refl}
 use Rattle.std.specs.Prelude.{take}

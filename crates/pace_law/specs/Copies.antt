@@ -1,3 +1,4 @@
+-- SPDX-License-Identifier: Apache-2.0
 -- From which copy an instruction of a paced journal runs. This project's own.
 use Rattle.std.specs.Prelude.{◌≡◌, ℕ, ◌+◌, ◌*◌, ◌/◌, ◌<◌, true, Some, slice_get}
 use Rattle.sh_types.specs.declared.runs.Hart.{Hart}

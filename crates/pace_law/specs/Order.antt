@@ -1,3 +1,4 @@
+-- SPDX-License-Identifier: Apache-2.0
 -- A serial run of the small image of the laws. This project's own.
 use Rattle.std.specs.Prelude.{List, [], ◌∷◌}
 use Rattle.sh_types.specs.declared.runs.Event.{Event}

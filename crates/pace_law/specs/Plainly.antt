@@ -1,3 +1,4 @@
+-- SPDX-License-Identifier: Apache-2.0
 -- Turns of a run without layouts, beside a period. This project's own.
 use Rattle.std.specs.Prelude.{ℕ, ◌+◌, ◌%◌, ◌≤◌, List, [], ◌∷◌}
 use Rattle.sh_machines.specs.PlainSerial.{Turn}

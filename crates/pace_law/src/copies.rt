@@ -1,3 +1,4 @@
+// SPDX-License-Identifier: Apache-2.0
 //! Which copies a paced journal runs from, and which of them are erased.
 ghost use Rattle.std.specs.Prelude.{◌≡◌, ℕ, ◌+◌, ◌*◌, ◌<◌, ◌≤◌, List, ◌∷◌, ◌++◌, Some, slice_index};
 ghost use Rattle.sh_types.specs.declared.code.Image.{Image};

@@ -1,3 +1,4 @@
+// SPDX-License-Identifier: Apache-2.0
 //! A serial run that is known.
 ghost use Rattle.std.specs.Prelude.{◌≡◌, Some, [], ◌∷◌, length, take};
 ghost use Rattle.sh_types.specs.declared.runs.End.TheVariants as end;

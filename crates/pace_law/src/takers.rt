@@ -1,3 +1,4 @@
+// SPDX-License-Identifier: Apache-2.0
 //! Who takes a turn.
 ghost use Rattle.std.specs.Prelude.{◌≡◌, ℕ, true, List};
 ghost use Rattle.sh_types.specs.declared.code.Image.{Image};

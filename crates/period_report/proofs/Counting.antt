@@ -1,3 +1,4 @@
+-- SPDX-License-Identifier: Apache-2.0
 -- The count of instructions goes with the events, and the cells that are kept with the layouts.
 use Rattle.std.proofs.Common.{◌≡◌, ℕ, ◌+◌, ◌^◌, ◌≤◌, ◌<◌, get_or, List, [], ◌∷◌, ◌++◌, sym, ap, ◌∙◌, arith, le_trans, length, drop, replicate}
 use Rattle.std.proofs.lemmas.List.{at_drop_more, length-append, length-replicate}

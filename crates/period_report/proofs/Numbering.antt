@@ -1,3 +1,4 @@
+-- SPDX-License-Identifier: Apache-2.0
 -- In a legal list of events the layouts that are published are numbered one after the other.
 use Rattle.std.proofs.Common.{◌≡◌, ℕ, List, [], ◌∷◌, Option, Some, None, refl, subst}
 use Rattle.std.specs.Prelude.{slice_get}

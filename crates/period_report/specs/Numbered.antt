@@ -1,3 +1,4 @@
+-- SPDX-License-Identifier: Apache-2.0
 -- Layouts that are published are numbered one after the other. This project's own.
 use Rattle.std.specs.Prelude.{ℕ, ◌+◌, ◌≡◌, List, [], ◌∷◌}
 use Rattle.sh_types.specs.declared.runs.Event.{Event}

@@ -1,3 +1,4 @@
+// SPDX-License-Identifier: Apache-2.0
 //! The report on a run: what it was made from, which layouts came and went, and how it ended.
 #![tactic(auto)]
 

@@ -1,3 +1,4 @@
+// SPDX-License-Identifier: Apache-2.0
 //! The lines of a report.
 ghost use Rattle.std.specs.Prelude.{◌≡◌, IfOk, string_bytes};
 ghost use Rattle.period_report.specs.Text.{run_lines, image_line, layout_line, erase_line, count_lines, trap_word as trap_word_of, pair_text, end_line};

@@ -1,3 +1,4 @@
+// SPDX-License-Identifier: Apache-2.0
 //! The report on a run.
 ghost use Rattle.std.specs.Prelude.{◌≡◌, ◌<◌, ◌^◌, ◌++◌, IfOk, string_bytes};
 ghost use Rattle.shuf_machine.specs.Past.{state_of};

@@ -1,3 +1,4 @@
+-- SPDX-License-Identifier: Apache-2.0
 -- The return words that are kept where those of a hart are not.
 use Rattle.std.proofs.Common.{◌≡◌, ℕ, Bool, true, false, cond, not, Option, Some, None, refl, ap, ◌∙◌, nat_cmp}
 use Rattle.std.specs.Prelude.{◌==◌, if◌then◌else◌, filter}

@@ -1,3 +1,4 @@
+-- SPDX-License-Identifier: Apache-2.0
 -- What an access to one aligned word answers, and what it leaves. (RISC-V Unprivileged ISA, "Load and Store
 -- Instructions"; that every misaligned access is refused, and return words, are this project's own.)
 use Rattle.std.specs.Prelude.{◌≡◌, ◌⊎◌, ℕ, ◌%◌, ◌==◌, Bool, Option, List, Result, Ok, Err, if◌then◌else◌}

@@ -1,3 +1,4 @@
+-- SPDX-License-Identifier: Apache-2.0
 -- What a store leaves, of bytes and of words.
 use Rattle.std.specs.Prelude.{◌≡◌, ℕ, ◌+◌, ◌/◌, ◌<◌, ◌≤◌, ◌==◌, List, map, slice_index, if◌then◌else◌}
 use Rattle.sh_types.specs.declared.code.Region.{Region}

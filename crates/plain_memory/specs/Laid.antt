@@ -1,3 +1,4 @@
+-- SPDX-License-Identifier: Apache-2.0
 -- Regions in rising order that share no byte, each with a byte for each of its addresses.
 use Rattle.std.specs.Prelude.{◌≡◌, ℕ, ◌+◌, ◌<◌, ◌≤◌, true, Bool, Some, List, [], ◌∷◌, length, slice_get, slice_index, slice_index_or, if◌then◌else◌}
 use Rattle.std.specs.List.{All}

@@ -1,3 +1,4 @@
+-- SPDX-License-Identifier: Apache-2.0
 -- What this memory holds: regions with the bytes that the guest has stored, and return words by their numbers.
 use Rattle.std.specs.Prelude.{◌≡◌, ℕ, ◌==◌, Option, Some, None, List, map, IsSome, if◌then◌else◌}
 use Rattle.std.specs.BTreeMap.{is_at}

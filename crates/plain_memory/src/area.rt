@@ -1,3 +1,4 @@
+// SPDX-License-Identifier: Apache-2.0
 //! A region with its bytes as they stand.
 ghost use Rattle.std.specs.Prelude.{◌≡◌, ℕ, ◌+◌, ◌-◌, ◌*◌, ◌%◌, ◌^◌, ◌<◌, ◌≤◌, ◌&&◌, nat_le, true, if◌then◌else◌, IfOk, length, slice_index};
 ghost use Rattle.sh_machines.specs.Memory.{bytes_number, is_in_region};

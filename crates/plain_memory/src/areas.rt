@@ -1,3 +1,4 @@
+// SPDX-License-Identifier: Apache-2.0
 //! The regions of a memory with their bytes, and which of them has an address.
 ghost use Rattle.std.specs.Prelude.{◌≡◌, ℕ, ◌+◌, ◌/◌, ◌%◌, ◌<◌, ◌≤◌, true, false, map, length, slice_index_or, IfSome, IsSome, IsNone};
 ghost use Rattle.std.specs.List.{list_any};

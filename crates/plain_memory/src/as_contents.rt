@@ -1,3 +1,4 @@
+// SPDX-License-Identifier: Apache-2.0
 //! The memory as the machine that never moves asks for it.
 ghost use Rattle.plain_memory.specs.Plain.{contents_of, regions_of};
 

@@ -1,3 +1,4 @@
+// SPDX-License-Identifier: Apache-2.0
 //! What the machine that never moves asks of its memory.
 ghost use Rattle.std.specs.Prelude.{◌≡◌, ℕ, ◌/◌, ◌++◌, true, [], List, length as length_of, IsTrue, ◌↔◌, IsSome, IsNone, OnOk, OnErr, unwrap_or};
 ghost use Rattle.sh_types.specs.declared.code.Region.{Region};

@@ -1,3 +1,4 @@
+// SPDX-License-Identifier: Apache-2.0
 //! The faults of a save, from those of what it does.
 ghost use Rattle.std.specs.Prelude.{◌≡◌};
 ghost use Rattle.plain_memory.specs.declared.contents.SaveFault.TheVariants.{Access, NoMemory as refused};

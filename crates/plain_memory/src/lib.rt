@@ -1,3 +1,4 @@
+// SPDX-License-Identifier: Apache-2.0
 //! The memory of the machine that never moves: words of eight bytes, each a number or a hart's return word.
 #![tactic(auto)]
 

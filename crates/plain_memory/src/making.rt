@@ -1,3 +1,4 @@
+// SPDX-License-Identifier: Apache-2.0
 //! A memory at first.
 ghost use Rattle.std.specs.Prelude.{◌≡◌, ℕ, ◌<◌, IfOk, length, slice_index, slice_index_or};
 ghost use Rattle.sh_types.specs.declared.code.Region.{Region};

@@ -1,3 +1,4 @@
+// SPDX-License-Identifier: Apache-2.0
 //! Ranges of bytes, and the return words of a hart.
 ghost use Rattle.std.specs.Prelude.{◌≡◌, ◌/◌, ◌++◌, ◌↔◌, true, [], length as length_of, IsTrue, IsSome, IsNone, OnOk, OnErr, unwrap_or};
 ghost use Rattle.sh_machines.specs.Memory.{bytes_from, readable, writable};

@@ -1,3 +1,4 @@
+// SPDX-License-Identifier: Apache-2.0
 //! The return words of a memory, by the numbers of their words.
 ghost use Rattle.std.specs.Prelude.{◌≡◌, ℕ, ◌<◌, ◌≤◌, ◌==◌, None, Some, IsSome, IsNone, IfSome, OnOk, OnErr, if◌then◌else◌};
 ghost use Rattle.plain_memory.specs.Plain.{saved_at, unless_his};

@@ -1,3 +1,4 @@
+-- SPDX-License-Identifier: Apache-2.0
 -- The label at an address, of labels by rising addresses.
 use Rattle.std.proofs.Common.{◌≡◌, ◌∙◌, ℕ, ◌<◌, ◌≤◌, Some, None, List, length, get_or, ap, inl, inr, arith}
 use Rattle.std.specs.Prelude.{◌==◌}

@@ -1,3 +1,4 @@
+-- SPDX-License-Identifier: Apache-2.0
 -- Addresses that records take give the rows and labels of the records.
 use Rattle.std.proofs.Common.{◌≡◌, ℕ, suc, ◌+◌, ◌-◌, ◌<◌, Bool, true, false, cond, List, [], ◌∷◌, ◌++◌, refl, sym, ap, ◌∙◌, arith, append_assoc}
 use Rattle.std.specs.Prelude.{map, filter}

@@ -1,3 +1,4 @@
+-- SPDX-License-Identifier: Apache-2.0
 -- The addresses that records take, in any order.
 use Rattle.std.proofs.Common.{◌≡◌, ℕ, Bool, true, false, cond, ◌||◌, Option, Some, None, List, [], ◌∷◌, refl, sym, ap, ◌∙◌}
 use Rattle.std.specs.Prelude.{◌==◌, ◌&&◌}

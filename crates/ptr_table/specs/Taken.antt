@@ -1,3 +1,4 @@
+-- SPDX-License-Identifier: Apache-2.0
 -- The addresses that records take, and the rows and labels that these give.
 use Rattle.std.specs.Prelude.{◌≡◌, ◌==◌, ◌++◌, ◌+◌, ℕ, Bool, true, false, Option, Some, None, List, [], ◌∷◌, map, filter, if◌then◌else◌}
 use Rattle.std.specs.List.{list_any}

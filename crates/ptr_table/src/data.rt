@@ -1,3 +1,4 @@
+// SPDX-License-Identifier: Apache-2.0
 //! What records put into data.
 ghost use Rattle.std.specs.Prelude.{◌≡◌, ◌==◌, ◌<◌, ◌≤◌, ◌^◌, ℕ, length, slice_index_or};
 ghost use Rattle.std.specs.List.{position_from};

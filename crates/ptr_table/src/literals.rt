@@ -1,3 +1,4 @@
+// SPDX-License-Identifier: Apache-2.0
 //! What an AUIPC puts into its register.
 ghost use Rattle.std.specs.Prelude.{◌≡◌, ◌<◌, ◌≤◌, ◌^◌, ◌-ℤ◌, pos};
 ghost use Rattle.rv_table.specs.Decoding.{signed_bits};

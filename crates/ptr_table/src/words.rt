@@ -1,3 +1,4 @@
+// SPDX-License-Identifier: Apache-2.0
 //! What records put into words.
 ghost use Rattle.std.specs.Prelude.{◌≡◌, ◌<◌, ◌^◌, pos};
 ghost use Rattle.elf_rules.specs.Relocs as relocs;

@@ -1,3 +1,4 @@
+-- SPDX-License-Identifier: Apache-2.0
 -- One hart alone: its own instructions, and the one at which others come in.
 use Rattle.std.proofs.Common.{◌≡◌, ℕ, ◌+◌, ◌≤◌, ◌<◌, Bool, true, false, Option, Some, None, Result, Ok, Err, List, [], ◌++◌, refl, sym, ap, ◌∙◌, subst, arith, append-nil}
 use Rattle.std.specs.Prelude.{slice_get, slice_set}

@@ -1,3 +1,4 @@
+-- SPDX-License-Identifier: Apache-2.0
 -- Instructions that end a hart or the run.
 use Rattle.std.proofs.Common.{◌≡◌, ℕ, Bool, true, false, Option, Some, None, List, [], ◌++◌, length, drop, refl, sym, ap, ◌∙◌, append-nil}
 use Rattle.std.specs.Prelude.{map, slice_get, slice_set}

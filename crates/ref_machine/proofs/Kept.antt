@@ -1,3 +1,4 @@
+-- SPDX-License-Identifier: Apache-2.0
 -- An instruction leaves its hart alive and numbered as it was, and only an environment call calls.
 use Rattle.std.proofs.Common.{◌≡◌, ℕ, Bool, true, false, Option, Some, None, List, refl}
 use Rattle.std.specs.Prelude.{slice_index, ◌==◌, ◌&&◌, ◌/◌, ◌%◌, if◌then◌else◌}

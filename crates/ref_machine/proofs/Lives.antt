@@ -1,3 +1,4 @@
+-- SPDX-License-Identifier: Apache-2.0
 -- What it says that a hart can go.
 use Rattle.std.proofs.Common.{◌≡◌, ℕ, zero, suc, Bool, true, false, Option, Some, None, List, [], ◌∷◌, refl, sym, ap, ◌∙◌}
 use Rattle.std.specs.Prelude.{slice_get, ◌&&◌}

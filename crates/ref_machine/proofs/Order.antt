@@ -1,3 +1,4 @@
+-- SPDX-License-Identifier: Apache-2.0
 -- The serial order, by what was executed and what is still to come.
 use Rattle.std.proofs.Common.{◌≡◌, ℕ, zero, suc, ◌+◌, ◌-◌, ◌==◌, ◌||◌, ◌≤◌, ◌<◌, nat_le, Bool, true, false, not, Some, List, [], ◌∷◌, ◌++◌, length, min, replicate, drop, refl, sym, ap, ◌∙◌, subst, arith, append_assoc, append-nil, length-append}
 use Rattle.std.specs.Prelude.{Option, None, IfSome, IfNone, unwrap_or, if◌then◌else◌}

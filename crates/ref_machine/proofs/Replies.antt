@@ -1,3 +1,4 @@
+-- SPDX-License-Identifier: Apache-2.0
 -- What environment calls leave, as the code does them.
 use Rattle.std.proofs.Common.{◌≡◌, ℕ, zero, suc, ◌+◌, true, Option, Some, None, List, [], ◌∷◌, ◌++◌, length, take, drop, refl, sym, ap, ◌∙◌, append-nil, arith}
 use Rattle.std.specs.Prelude.{map, slice_set}

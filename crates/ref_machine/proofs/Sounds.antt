@@ -1,3 +1,4 @@
+-- SPDX-License-Identifier: Apache-2.0
 -- What holds of each state that is reached.
 use Rattle.std.proofs.Common.{◌≡◌, ◌≢◌, ◌⊎◌, inl, inr, ℕ, zero, suc, ◌+◌, ◌≤◌, Bool, true, false, Option, Some, None, List, [], ◌∷◌, ◌++◌, length, replicate, refl, sym, ap, ◌∙◌, subst, arith, length-append}
 use Rattle.std.specs.Prelude.{map, slice_get, slice_set, ◌==◌, ◌%◌, slice_index, if◌then◌else◌}

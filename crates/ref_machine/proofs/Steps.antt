@@ -1,3 +1,4 @@
+-- SPDX-License-Identifier: Apache-2.0
 -- An instruction of a hart that can go, by what comes of it.
 use Rattle.std.proofs.Common.{◌≡◌, ℕ, true, Some, refl, sym, ap, ◌∙◌}
 use Rattle.std.specs.Prelude.{slice_get, if◌then◌else◌}

@@ -1,3 +1,4 @@
+-- SPDX-License-Identifier: Apache-2.0
 -- The code's harts as the unmoved machine's.
 use Rattle.std.proofs.Common.{◌≡◌, ℕ, zero, suc, true, Some, None, List, [], ◌∷◌, ◌++◌, length, Option, refl, ap, ◌∙◌}
 use Rattle.std.specs.Prelude.{map, slice_get, slice_set, Bool}

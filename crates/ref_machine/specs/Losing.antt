@@ -1,3 +1,4 @@
+-- SPDX-License-Identifier: Apache-2.0
 -- Reservations that a store takes from other harts, as the code does it. This project's own.
 use Rattle.std.specs.Prelude.{ℕ, ◌==◌, ◌&&◌, ◌||◌, not, Bool, false, List, [], ◌∷◌, is_some, if◌then◌else◌}
 use Rattle.sh_types.specs.declared.runs.Stored.{Stored}

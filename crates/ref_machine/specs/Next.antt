@@ -1,3 +1,4 @@
+-- SPDX-License-Identifier: Apache-2.0
 -- The next instruction of a hart, and how the code does it. This project's own.
 use Rattle.std.specs.Prelude.{◌≡◌, ℕ, ◌<◌, ◌≤◌, Bool, true, false, Option, Some, None, List, Result, Ok, Err, slice_get, slice_set}
 use Rattle.sh_types.specs.declared.code.Image.{Image}

@@ -1,3 +1,4 @@
+-- SPDX-License-Identifier: Apache-2.0
 -- How far a run has come: instructions of one hart, and of the serial order. This project's own.
 use Rattle.std.specs.Prelude.{◌≡◌, ℕ, ◌+◌, ◌-◌, ◌<◌, ◌≤◌, List, ◌++◌, length, replicate}
 use Rattle.sh_types.specs.declared.code.Image.{Image}

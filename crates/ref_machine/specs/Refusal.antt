@@ -1,3 +1,4 @@
+-- SPDX-License-Identifier: Apache-2.0
 -- Why an instruction is not done. This project's own.
 use Rattle.std.specs.Prelude.{◌≡◌, ℕ, Option, Some, None, Result, Ok, Err, slice_get, if◌then◌else◌}
 use Rattle.sh_machines.specs.Unmoved.{Unmoved, goes_still, is_alive}

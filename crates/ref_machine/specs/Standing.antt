@@ -1,3 +1,4 @@
+-- SPDX-License-Identifier: Apache-2.0
 -- A machine as contracts see it. This project's own.
 use Rattle.std.specs.Prelude.{◌≡◌, ℕ, ◌+◌, ◌≤◌, Option, List, ◌++◌, length, drop, vec_capacity}
 use Rattle.sh_types.specs.declared.code.Image.{Image}

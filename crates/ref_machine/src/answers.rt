@@ -1,3 +1,4 @@
+// SPDX-License-Identifier: Apache-2.0
 //! Why an instruction was not done.
 
 /// Why an instruction was not done: memory was refused; the run has ended; no hart of this number is live.

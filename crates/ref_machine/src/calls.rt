@@ -1,3 +1,4 @@
+// SPDX-License-Identifier: Apache-2.0
 //! Calls of the environment (RISC-V Unprivileged ISA, "Environment Call and Breakpoints"): the number is in a7, the
 //! arguments are in a0 to a3, and the answer goes to a0.
 ghost use Rattle.std.specs.Prelude.{◌≡◌, ℕ, ◌+◌, ◌-◌, ◌<◌, ◌≤◌, ◌^◌, ◌++◌, [], ◌∷◌, Some, None, true, length, take, OnOk, OnErr, slice_get, slice_set, vec_len, vec_capacity};

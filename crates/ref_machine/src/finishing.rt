@@ -1,3 +1,4 @@
+// SPDX-License-Identifier: Apache-2.0
 //! Instructions that end a hart or the run.
 ghost use Rattle.std.specs.Prelude.{◌≡◌, ℕ, ◌+◌, ◌-◌, ◌<◌, ◌^◌, ◌%◌, None, Some, vec_len, vec_capacity};
 ghost use Rattle.sh_machines.specs.Need.{Quits, Traps, Leaks};

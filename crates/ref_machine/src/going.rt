@@ -1,3 +1,4 @@
+// SPDX-License-Identifier: Apache-2.0
 //! Which harts can go.
 ghost use Rattle.std.specs.Prelude.{◌≡◌, ◌<◌, None, Some, true, nat_lt, ◌&&◌, slice_get, vec_len};
 ghost use Rattle.std.specs.Option.{option_copied};

@@ -1,3 +1,4 @@
+// SPDX-License-Identifier: Apache-2.0
 //! The machine that never moves: an image's instructions, hart by hart, in the serial order.
 #![tactic(auto)]
 

@@ -1,3 +1,4 @@
+// SPDX-License-Identifier: Apache-2.0
 //! Reservations that a store of another hart takes.
 ghost use Rattle.std.specs.Prelude.{◌≡◌, map};
 ghost use Rattle.ref_machine.specs.Losing.{any_reserved as any_reserved_of, loses};

@@ -1,3 +1,4 @@
+// SPDX-License-Identifier: Apache-2.0
 //! What instructions change, beside memory.
 use sh_types::{Bytes, End};
 use thread_acts::Thread;

@@ -1,3 +1,4 @@
+// SPDX-License-Identifier: Apache-2.0
 //! Instructions of one hart.
 ghost use Rattle.std.specs.Prelude.{◌≡◌, ℕ, ◌+◌, ◌-◌, ◌<◌, ◌≤◌, ◌^◌, Bool, true, OnOk, OnErr, vec_len, vec_capacity};
 ghost use Rattle.sh_types.specs.Limits.{most_harts};

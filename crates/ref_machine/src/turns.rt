@@ -1,3 +1,4 @@
+// SPDX-License-Identifier: Apache-2.0
 //! The serial order: turns of live harts, one after another.
 ghost use Rattle.std.specs.Prelude.{◌≡◌, ℕ, ◌+◌, ◌-◌, ◌<◌, ◌≤◌, ◌^◌, true, length, IfSome, IfNone, OnOk, OnErr, vec_capacity};
 ghost use Rattle.sh_types.specs.Limits.{most_harts};

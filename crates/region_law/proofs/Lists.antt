@@ -1,3 +1,4 @@
+-- SPDX-License-Identifier: Apache-2.0
 -- Regions with tokens in their bytes, and others behind them: where they lie, and what they read.
 use Rattle.std.proofs.Common.{◌≡◌, ℕ, zero, suc, ◌+◌, ◌-◌, ◌<◌, ◌≤◌, Bool, true, false, cond, Some, List, [], ◌∷◌, ◌++◌, length, get_or, refl, ap, ◌∙◌, arith}
 use Rattle.std.specs.Prelude.{find, map}

@@ -1,3 +1,4 @@
+-- SPDX-License-Identifier: Apache-2.0
 -- The regions of the bound image of a file, by those of the file.
 use Rattle.std.proofs.Common.{◌≡◌, inl, inr, ℕ, ◌<◌, ◌≤◌, Option, Some, None, List, [], ◌∷◌, ◌++◌, length, get_or, refl, sym, ap, ◌∙◌, subst, arith, All}
 use Rattle.std.specs.Prelude.{find}

@@ -1,3 +1,4 @@
+-- SPDX-License-Identifier: Apache-2.0
 -- No token takes a byte of the first stack: the bytes that a record takes lie in a segment, and that ends below.
 use Rattle.std.proofs.Common.{◌≡◌, inl, inr, ℕ, ◌+◌, ◌<◌, ◌≤◌, true, false, Option, Some, None, List, [], ◌∷◌, ◌++◌, arith, All}
 use Rattle.std.specs.Prelude.{find, unwrap_or}

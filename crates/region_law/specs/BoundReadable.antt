@@ -1,3 +1,4 @@
+-- SPDX-License-Identifier: Apache-2.0
 -- What can be read at an address of the bound image of a file: what the file has there, with tokens in place of addresses
 -- of code. This project's own.
 use Rattle.std.specs.Prelude.{ℕ, Option, Some, None, List, find}

@@ -1,3 +1,4 @@
+-- SPDX-License-Identifier: Apache-2.0
 -- An example of a literal: two functions, the second called `work`, and the record of the AUIPC of `la a0, work`.
 use Rattle.std.specs.Prelude.{ℕ, pos, List, [], ◌∷◌, true, codes}
 use Rattle.sh_types.specs.declared.code.Function.{Function}

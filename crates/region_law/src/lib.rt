@@ -1,3 +1,4 @@
+// SPDX-License-Identifier: Apache-2.0
 //! What can be read in the bound images of files, as clauses of functions that do nothing.
 #![tactic(auto)]
 

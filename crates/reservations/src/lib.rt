@@ -1,3 +1,4 @@
+// SPDX-License-Identifier: Apache-2.0
 //! Reservations (RISC-V Unprivileged ISA, "A" extension, "Load-Reserved/Store-Conditional Instructions").
 #![tactic(auto)]
 

@@ -1,3 +1,4 @@
+-- SPDX-License-Identifier: Apache-2.0
 -- The cipher opens what it sealed, and seals what it opened.
 use Rattle.std.proofs.Common.{◌≡◌, ℕ, zero, suc, ◌+◌, ◌-◌, ◌*◌, ◌/◌, ◌%◌, ◌^◌, ◌<◌, ◌≤◌, refl, sym, ap, ◌∙◌, subst, arith}
 use Rattle.std.specs.Prelude.{bit_xor, bit_or}

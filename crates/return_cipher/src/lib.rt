@@ -1,3 +1,4 @@
+// SPDX-License-Identifier: Apache-2.0
 //! The cipher of return words: an address is sealed for the slot that it lies in, under the key of a hart.
 #![tactic(auto)]
 

@@ -1,3 +1,4 @@
+-- SPDX-License-Identifier: Apache-2.0
 -- What the answer to a source says of its object.
 use Rattle.std.proofs.Common.{◌≡◌, ℕ, List, refl, subst, ap, sym, ◌∙◌}
 use Rattle.std.specs.Prelude.{Option, Some, None, Ok, Err}

@@ -1,3 +1,4 @@
+-- SPDX-License-Identifier: Apache-2.0
 -- Words of instructions that are added one behind the other.
 use Rattle.std.proofs.Common.{◌≡◌, ℕ, List, [], ◌∷◌, ◌++◌, refl, sym, ap, subst, ◌∙◌, append_assoc}
 use Rattle.std.specs.Prelude.{ℤ, Result, Ok, Err, IsOkUnless, map}

@@ -1,3 +1,4 @@
+-- SPDX-License-Identifier: Apache-2.0
 -- What no fault of a source says of its items.
 use Rattle.std.proofs.Common.{◌≡◌, ℕ, Bool, true, false, List, [], refl, sym, subst}
 use Rattle.std.specs.Prelude.{nat_le, Option, Some, None, Ok, if◌then◌else◌}

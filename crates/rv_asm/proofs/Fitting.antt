@@ -1,3 +1,4 @@
+-- SPDX-License-Identifier: Apache-2.0
 -- The instructions of a statement in range are instructions of the table.
 use Rattle.std.proofs.Common.{◌≡◌, ℕ, ◌+◌, ◌-◌, ◌*◌, ◌/◌, ◌%◌, ◌^◌, ◌<◌, ◌≤◌, Bool, true, false, refl, sym, subst, lit<, lit≤, arith}
 use Rattle.std.specs.Prelude.{ℤ, pos, negsuc, nat_lt, [], ◌∷◌, if◌then◌else◌}

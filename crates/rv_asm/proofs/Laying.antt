@@ -1,3 +1,4 @@
+-- SPDX-License-Identifier: Apache-2.0
 -- The data and the text by two maps of targets that have the same are the same.
 use Rattle.std.proofs.Common.{◌≡◌, ℕ, List, refl, ap}
 use Rattle.std.specs.Prelude.{Option}

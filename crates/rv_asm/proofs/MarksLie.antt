@@ -1,3 +1,4 @@
+-- SPDX-License-Identifier: Apache-2.0
 -- The marks of checked items lie in their parts and rise.
 use Rattle.std.proofs.Common.{◌≡◌, ℕ, ◌+◌, ◌<◌, ◌≤◌, Bool, true, false, List, [], ◌∷◌, ◌++◌, length, refl, sym, ap, subst, arith, lit<}
 use Rattle.std.specs.Prelude.{Option, Contains, if◌then◌else◌}

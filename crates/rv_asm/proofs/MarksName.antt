@@ -1,3 +1,4 @@
+-- SPDX-License-Identifier: Apache-2.0
 -- The symbols of marks have the names that stand in the statements.
 use Rattle.std.proofs.Common.{◌≡◌, ℕ, zero, suc, ◌+◌, Bool, true, false, List, [], ◌∷◌, ◌++◌, length, refl, sym, ap, subst, ◌∙◌, arith}
 use Rattle.std.specs.Prelude.{Option, Some, None, map, option_map, slice_get, ◌==◌, ◌||◌, if◌then◌else◌}

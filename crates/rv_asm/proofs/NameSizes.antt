@@ -1,3 +1,4 @@
+-- SPDX-License-Identifier: Apache-2.0
 -- The names of the symbols of a text of at most 64 MiB come to less than 4 GiB.
 use Rattle.std.proofs.Common.{◌≡◌, ℕ, ◌+◌, ◌-◌, ◌*◌, ◌^◌, ◌<◌, ◌≤◌, Bool, true, false, List, [], ◌∷◌, ◌++◌, length, arith}
 use Rattle.std.specs.Prelude.{Option, Some, None, map, codes, decimal, if◌then◌else◌}

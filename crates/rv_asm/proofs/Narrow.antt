@@ -1,3 +1,4 @@
+-- SPDX-License-Identifier: Apache-2.0
 -- A number that an instruction takes has 12 bits.
 use Rattle.std.proofs.Common.{◌≡◌, ℕ, ◌<◌, ◌≤◌, ◌^◌, Bool, true, false, lit≤, arith}
 use Rattle.std.specs.Prelude.{ℤ, pos, negsuc, ◌==◌, if◌then◌else◌}

@@ -1,3 +1,4 @@
+-- SPDX-License-Identifier: Apache-2.0
 -- The words of instructions decode to them.
 use Rattle.std.proofs.Common.{◌≡◌, ◌∙◌, ℕ, ◌^◌, ◌<◌, Bool, true, false, List, [], ◌∷◌, refl, ap, arith}
 use Rattle.std.specs.Prelude.{ℤ, pos, negsuc, ◌&&◌, nat_lt, Option, Some, map}

@@ -1,3 +1,4 @@
+-- SPDX-License-Identifier: Apache-2.0
 -- The bytes of the data, and the words of the text, one statement behind the other.
 use Rattle.std.specs.Prelude.{ℕ, min, Option, Some, None, List, [], take, replicate}
 use Rattle.std.specs.Int.{w64, to_le_bytes}

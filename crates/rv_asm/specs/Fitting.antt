@@ -1,3 +1,4 @@
+-- SPDX-License-Identifier: Apache-2.0
 -- The instructions of all statements are in the ranges of their fields.
 use Rattle.std.specs.Prelude.{◌≡◌, ℕ, ℤ, Option, Some, List, [], ◌∷◌, map}
 use Rattle.rv_table.specs.Decoding.{decoded}

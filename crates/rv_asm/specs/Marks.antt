@@ -1,3 +1,4 @@
+-- SPDX-License-Identifier: Apache-2.0
 -- The marks of what refers to what (RISC-V psABI, "Relocations").
 use Rattle.std.specs.Prelude.{ℕ, ◌+◌, ◌==◌, Bool, true, false, Option, Some, None, List, [], ◌∷◌, length, slice_get, option_map, if◌then◌else◌}
 use Rattle.sh_types.specs.declared.symbols.Symbol.{Symbol}

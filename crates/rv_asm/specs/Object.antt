@@ -1,3 +1,4 @@
+-- SPDX-License-Identifier: Apache-2.0
 -- The object of a source: functions with their words, the data, the symbols, and the marks of what refers to what.
 use Rattle.std.specs.Prelude.{◌≡◌, ℕ, suc, ◌-◌, ◌/◌, Option, Some, None, Result, Ok, Err, List, [], ◌∷◌, take, drop, map, if◌then◌else◌}
 use Rattle.std.specs.Str.{bytes_eq}

@@ -1,3 +1,4 @@
+-- SPDX-License-Identifier: Apache-2.0
 -- The first fault of a source, of those that a statement shows by itself, by its place, or by a name that is taken.
 use Rattle.std.specs.Prelude.{ℕ, ◌+◌, ◌-◌, ◌==◌, ◌&&◌, not, nat_le, Bool, false, Option, Some, None, List, [], ◌∷◌, length, slice_index, count_by, option_map, if◌then◌else◌}
 use Rattle.asm_text.specs.declared.statements.Statement.{Statement}

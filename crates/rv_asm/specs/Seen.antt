@@ -1,3 +1,4 @@
+-- SPDX-License-Identifier: Apache-2.0
 -- The instructions of a statement as the code holds them.
 use Rattle.std.specs.Prelude.{List, [], ◌∷◌}
 use Rattle.rv_table.specs.declared.instructions.Instr.{Instr}

@@ -1,3 +1,4 @@
+-- SPDX-License-Identifier: Apache-2.0
 -- What writing the words of statements does.
 use Rattle.std.specs.Prelude.{◌≡◌, ℕ, ℤ, Result, Ok, Err, List, ◌++◌, map}
 use Rattle.rv_table.specs.declared.instructions.Instr.{Instr}

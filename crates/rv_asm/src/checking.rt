@@ -1,3 +1,4 @@
+// SPDX-License-Identifier: Apache-2.0
 //! The first fault of a source.
 ghost use Rattle.std.specs.Prelude.{◌≡◌, ◌≤◌, ◌==◌, option_map, length, count_by, IfOk};
 ghost use Rattle.asm_text.specs.Source.{source_of};

@@ -1,3 +1,4 @@
+// SPDX-License-Identifier: Apache-2.0
 //! The bytes of the data and the words of the text.
 ghost use Rattle.std.specs.Prelude.{◌≡◌, ◌≤◌, ◌<◌, ◌^◌, ◌++◌, true, false, None, replicate, length, IfOk, OnOk, IsOkUnless};
 ghost use Rattle.rv_table.specs.Instruction.{low_bits};

@@ -1,3 +1,4 @@
+// SPDX-License-Identifier: Apache-2.0
 //! The assembler: a source becomes functions, words, data, symbols and the marks of what refers to what.
 #![tactic(auto)]
 

@@ -1,3 +1,4 @@
+// SPDX-License-Identifier: Apache-2.0
 //! The marks of what refers to what.
 ghost use Rattle.std.specs.Prelude.{◌≡◌, ◌≤◌, ◌<◌, ◌+◌, ◌^◌, ◌++◌, ◌∷◌, [], true, false, None, length, IfOk, OnOk};
 ghost use Rattle.asm_places.specs.Places.{first_place};

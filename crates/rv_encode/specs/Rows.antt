@@ -1,3 +1,4 @@
+-- SPDX-License-Identifier: Apache-2.0
 -- The width of what stands above the fields of a row (RISC-V Unprivileged ISA, "Base Instruction Formats").
 use Rattle.std.specs.Prelude.{ℕ}
 use Rattle.rv_table.specs.declared.rows.Form.{Form}

@@ -1,3 +1,4 @@
+// SPDX-License-Identifier: Apache-2.0
 //! For each form, the word of an instruction whose row has it.
 ghost use Rattle.std.specs.Prelude.{◌≡◌, ◌^◌, ◌<◌, IfSome, IfNone};
 ghost use Rattle.rv_table.specs.Instruction.{row_of, Encodes, IsInstr};

@@ -1,3 +1,4 @@
+// SPDX-License-Identifier: Apache-2.0
 //! Known words, as clauses of a function that does nothing.
 ghost use Rattle.std.specs.Prelude.{◌≡◌, pos, negsuc};
 ghost use Rattle.rv_table.specs.Instruction.{IsInstr, word_of};

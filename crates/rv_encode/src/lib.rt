@@ -1,3 +1,4 @@
+// SPDX-License-Identifier: Apache-2.0
 //! Instructions to words: RV64IMA as the tables of the RISC-V Unprivileged ISA have it ("RV32/64G Instruction Set
 //! Listings"), and the machine forms of copies.
 #![tactic(auto)]

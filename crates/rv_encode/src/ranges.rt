@@ -1,3 +1,4 @@
+// SPDX-License-Identifier: Apache-2.0
 //! The bits of an immediate that is in its range.
 ghost use Rattle.std.specs.Prelude.{◌≡◌, ◌<◌, ℕ, IfSome, IfNone, pos};
 ghost use Rattle.rv_table.specs.Instruction.{low_bits, IsSigned};

@@ -1,3 +1,4 @@
+// SPDX-License-Identifier: Apache-2.0
 //! The rows of the table, for each mnemonic (RISC-V Unprivileged ISA, "RV32/64G Instruction Set Listings").
 ghost use Rattle.std.specs.Prelude.{◌≡◌, ◌<◌, ◌^◌};
 ghost use Rattle.rv_table.specs.Instruction.{row_of};

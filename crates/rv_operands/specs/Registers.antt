@@ -1,3 +1,4 @@
+-- SPDX-License-Identifier: Apache-2.0
 -- What the code asks of an instruction's fields (RISC-V Unprivileged ISA, "Programmers' Model for Base Integer ISA").
 use Rattle.std.specs.Prelude.{◌<◌}
 use Rattle.rv_table.specs.declared.instructions.Instr.{Instr}

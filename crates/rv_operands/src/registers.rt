@@ -1,3 +1,4 @@
+// SPDX-License-Identifier: Apache-2.0
 //! Registers and immediates.
 ghost use Rattle.std.specs.Prelude.{◌≡◌, IsTrue, slice_index};
 ghost use Rattle.rv_table.specs.Arithmetic.{is_arithmetic};

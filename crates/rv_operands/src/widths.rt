@@ -1,3 +1,4 @@
+// SPDX-License-Identifier: Apache-2.0
 //! How many bytes an instruction touches, and what it takes of them.
 ghost use Rattle.std.specs.Prelude.{◌≡◌, ◌⊎◌};
 ghost use Rattle.rv_table.specs.Operands.{taken_as, width_of};

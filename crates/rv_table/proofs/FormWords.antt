@@ -1,3 +1,4 @@
+-- SPDX-License-Identifier: Apache-2.0
 -- For each form: the fields that a word has make that word.
 use Rattle.std.proofs.Common.{◌≡◌, ℕ, pos, ◌+◌, ◌*◌, ◌/◌, ◌%◌, ◌^◌, ◌<◌, arith}
 use Rattle.rv_table.specs.Instruction.{Encodes, row, row_of, low_bits, IsSigned}

@@ -1,3 +1,4 @@
+-- SPDX-License-Identifier: Apache-2.0
 -- The machine forms: the fields that a word has make that word, and what a word of one has in its bits.
 use Rattle.std.proofs.Common.{◌≡◌, ℕ, ℤ, ◌+◌, ◌*◌, ◌/◌, ◌%◌, ◌^◌, ◌<◌, Option, Some, None, true, false, eqb, arith, refl, sym, ◌∙◌, ap, subst, inl, inr}
 use Rattle.std.specs.Prelude.{IfSome, IfNone}

@@ -1,3 +1,4 @@
+-- SPDX-License-Identifier: Apache-2.0
 -- A word has at most one instruction: which row it has, and what its fields are, by its bits.
 use Rattle.std.proofs.Common.{◌≡◌, ℕ, ℤ, pos, negsuc, ◌+◌, ◌-◌, ◌*◌, ◌/◌, ◌%◌, ◌^◌, ◌<◌, ◌≤◌, cond, eqb, ltb, Option, Some, None, refl, sym, ap, ◌∙◌, arith, lit<, add-one}
 use Rattle.std.proofs.Math.Nat.{pow-suc}

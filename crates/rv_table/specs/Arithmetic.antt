@@ -1,3 +1,4 @@
+-- SPDX-License-Identifier: Apache-2.0
 -- What the instructions compute (RISC-V Unprivileged ISA, chapters "RV32I Base Integer Instruction Set", "RV64I Base
 -- Integer Instruction Set", "M" extension and "A" extension). A register is a number below 2 ^ 64; as a signed number
 -- it is what it stands for in two's complement.

@@ -1,3 +1,4 @@
+-- SPDX-License-Identifier: Apache-2.0
 -- The instruction of a word: the same relation as `Encodes`, read from the word. The mnemonic is the one whose row the
 -- word has, and the fields are read where the row's form has them (RISC-V Unprivileged ISA, "Base Instruction Formats",
 -- "Immediate Encoding Variants" and "RV32/64G Instruction Set Listings").

@@ -1,3 +1,4 @@
+-- SPDX-License-Identifier: Apache-2.0
 -- The instructions of RV64IMA as data, to hold beside the manual: one row for each mnemonic, as in the RISC-V
 -- Unprivileged ISA, "RV32/64G Instruction Set Listings" (tables RV32I, RV64I, RV32M, RV64M, RV32A, RV64A), and where
 -- each format puts its fields ("RV32I Base Integer Instruction Set", "Base Instruction Formats").

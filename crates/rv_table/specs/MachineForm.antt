@@ -1,3 +1,4 @@
+-- SPDX-License-Identifier: Apache-2.0
 -- The four instructions that stand in copies only, as words of 32 bits. They have the two opcodes that the RISC-V
 -- Unprivileged ISA, "RV32/64G Instruction Set Listings", leaves to custom extensions: custom-0 (0x0b) and
 -- custom-1 (0x2b). Their fields lie as those of the manual's formats U, S and I.

@@ -1,3 +1,4 @@
+-- SPDX-License-Identifier: Apache-2.0
 -- Which registers an instruction reads, what it computes, and how many bytes it touches. Reads are by mnemonic: a
 -- field that means nothing, as rs1 of FENCE, is no read. (RISC-V Unprivileged ISA, RV32I "Integer Computational
 -- Instructions" and "Load and Store Instructions".)

@@ -1,3 +1,4 @@
+// SPDX-License-Identifier: Apache-2.0
 //! Instructions of RV64IMA (RISC-V Unprivileged ISA, RV32I, RV64I, "M" and "A"), and the forms of copies.
 
 /// A mnemonic of RV64IMA.

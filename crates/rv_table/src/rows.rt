@@ -1,3 +1,4 @@
+// SPDX-License-Identifier: Apache-2.0
 //! The rows of the manual's listings, one for each mnemonic (RISC-V Unprivileged ISA, "RV32/64G Instruction Set
 //! Listings").
 

@@ -1,3 +1,4 @@
+// SPDX-License-Identifier: Apache-2.0
 //! Whole ELF-64 files for tests (System V gABI, "ELF Header", "Program Header", "Section Header", "Symbol Table" and
 //! "String Table"): two PT_LOAD headers, the sections .text and .data, empty .rela.text and .rela.data, .symtab,
 //! .strtab and .shstrtab, and the section headers at the end.

@@ -1,3 +1,4 @@
+-- SPDX-License-Identifier: Apache-2.0
 use Rattle.std.specs.Prelude.{◌≡◌, ℕ, List, slice_get, Some}
 
 -- no two of the names are equal

@@ -1,3 +1,4 @@
+-- SPDX-License-Identifier: Apache-2.0
 -- Counts of faults: when a failure may be answered.
 use Rattle.std.specs.Prelude.{◌≡◌, ℕ, ◌+◌, ◌-◌, ◌^◌, ◌<◌, ◌≤◌, ◌&&◌, Bool, true, false, min, List, [], ◌∷◌, ◌++◌, replicate, count_by, length, nat_eq, Result, Ok, Err, IsErrOf, OnErr, MatchResult}
 use Rattle.std.specs.Cmp.Lexicographic.{pointwise}

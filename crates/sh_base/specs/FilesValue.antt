@@ -1,3 +1,4 @@
+-- SPDX-License-Identifier: Apache-2.0
 -- What files in memory stand for, and what a call answers and leaves.
 use Rattle.std.specs.Prelude.{◌≡◌, ◌⊎◌, ℕ, List, [], ◌∷◌, ◌++◌, None, Ok, Err, Result, Contains, refl}
 use Rattle.std.specs.Coded.{Coded, code_by, coded×, coded_ℕ, coded_list}

@@ -1,3 +1,4 @@
+-- SPDX-License-Identifier: Apache-2.0
 -- What files hold by name, and what a load and a store do to it.
 use Rattle.std.specs.Prelude.{◌≡◌, ◌≢◌, ℕ, ◌+◌, List, take, zip, ⊤, None, Some, Ok, Err, IsSomeAnd, Result}
 use Rattle.std.specs.Ordering.{nat_cmp}

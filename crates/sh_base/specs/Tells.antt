@@ -1,3 +1,4 @@
+-- SPDX-License-Identifier: Apache-2.0
 -- What files and sinks tell after a call.
 use Rattle.std.specs.Prelude.{ℕ, List, [], ◌∷◌, ◌++◌, Some, None, Ok, Err, Result}
 use Rattle.sh_base.specs.declared.files.FileFault.{FileFault}

@@ -1,3 +1,4 @@
+// SPDX-License-Identifier: Apache-2.0
 //! Files by name.
 ghost use Rattle.std.specs.Prelude.{◌≡◌, List, ℕ, IfOk};
 ghost use Rattle.std.specs.declared.option.Option.{Option};

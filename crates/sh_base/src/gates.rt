@@ -1,3 +1,4 @@
+// SPDX-License-Identifier: Apache-2.0
 //! Where a test can hold a thread.
 
 /// A place in the work of a thread: a turn was run ahead and its read guard is still held; a turn was

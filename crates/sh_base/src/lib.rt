@@ -1,3 +1,4 @@
+// SPDX-License-Identifier: Apache-2.0
 //! What the program meets outside: files, sinks and gates as traits, in memory and over the system.
 #![tactic(auto)]
 

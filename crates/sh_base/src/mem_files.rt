@@ -1,3 +1,4 @@
+// SPDX-License-Identifier: Apache-2.0
 //! Files in memory, with calls that fail by their number.
 ghost use Rattle.std.specs.Prelude.{◌≡◌, ◌≢◌, ◌+◌, ◌<◌, ◌∷◌, ◌++◌, [], ℕ, length, take, IfOk, OnOk, OnErr, MatchOption, Some, option_copied, slice_get, vec_len, vec_capacity};
 ghost use Rattle.std.specs.FinMap as map;

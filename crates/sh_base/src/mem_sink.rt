@@ -1,3 +1,4 @@
+// SPDX-License-Identifier: Apache-2.0
 //! A sink in memory, with room for so many bytes, and with calls that fail by their number.
 ghost use Rattle.std.specs.Prelude.{◌≡◌, ◌≤◌, ◌+◌, ◌-◌, ◌++◌, [], IfOk, IsTrue, ◌↔◌, take, length, vec_len, vec_capacity, Some, if◌then◌else◌};
 ghost use Rattle.sh_base.specs.Faults.{HasCause};

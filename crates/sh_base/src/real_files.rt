@@ -1,3 +1,4 @@
+// SPDX-License-Identifier: Apache-2.0
 //! The files of the system. They tell what their loads gave, and not what they hold.
 ghost use Rattle.std.specs.Prelude.{◌≡◌, ◌+◌, [], IfOk, IfSome, take};
 ghost use Rattle.sh_base.specs.Faults.{HasFileCause, FaultsAfter, call_of};

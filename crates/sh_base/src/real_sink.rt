@@ -1,3 +1,4 @@
+// SPDX-License-Identifier: Apache-2.0
 //! A sink over any writer of the system. It tells what it took, and not what the writer did with it.
 ghost use Rattle.std.specs.Prelude.{◌≡◌, [], None, OnOk};
 ghost use Rattle.std.specs.Io.KnownBytes.{Appends};

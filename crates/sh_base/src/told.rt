@@ -1,3 +1,4 @@
+// SPDX-License-Identifier: Apache-2.0
 //! What was answered so far, for clauses alone: it takes no memory, and its methods do nothing when they run.
 ghost use Rattle.std.specs.Prelude.{◌≡◌, ℕ, List, [], ◌∷◌, ◌++◌};
 ghost use Rattle.std.specs.Borrow.{ftrue};

@@ -1,3 +1,4 @@
+-- SPDX-License-Identifier: Apache-2.0
 -- Turns of small images, computed.
 use Rattle.std.proofs.Common.{◌≡◌, Some, None, [], ◌∷◌, refl}
 use Rattle.std.specs.Prelude.{take}

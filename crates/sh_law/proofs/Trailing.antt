@@ -1,3 +1,4 @@
+-- SPDX-License-Identifier: Apache-2.0
 -- In a paced journal that is legal the harts that are behind are live, and not on the newest layout.
 use Rattle.std.proofs.Common.{◌≡◌, ◌≢◌, inl, inr, ℕ, zero, suc, ◌+◌, Bool, true, false, Option, Some, None, List, [], ◌∷◌, ◌++◌, replicate, length, refl, sym, ap, ◌∙◌, subst, arith}
 use Rattle.std.specs.Prelude.{slice_get, slice_set, not, ◌==◌, ◌&&◌, ◌||◌, nat_lt, if◌then◌else◌}

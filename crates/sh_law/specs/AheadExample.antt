@@ -1,3 +1,4 @@
+-- SPDX-License-Identifier: Apache-2.0
 -- Instructions that are run ahead: what they note and what they leave. Words are those of the RISC-V Unprivileged ISA. This
 -- project's own.
 use Rattle.std.specs.Prelude.{ℕ, ◌+◌, ◌*◌, ◌%◌, true, Option, Some, None, List, [], ◌∷◌, slice_get}

@@ -1,3 +1,4 @@
+-- SPDX-License-Identifier: Apache-2.0
 -- When effects are those of instructions. This project's own.
 use Rattle.std.specs.Prelude.{◌≡◌, ℕ, true}
 use Rattle.sh_machines.specs.Event.{instructions, can_all}

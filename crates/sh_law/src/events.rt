@@ -1,3 +1,4 @@
+// SPDX-License-Identifier: Apache-2.0
 //! What a paced journal says of the events that come next.
 ghost use Rattle.std.specs.Prelude.{◌≡◌, ℕ, List};
 ghost use Rattle.sh_types.specs.declared.runs.Event.{Event};

@@ -1,3 +1,4 @@
+// SPDX-License-Identifier: Apache-2.0
 //! Instructions of a hart that are run ahead.
 ghost use Rattle.std.specs.Prelude.{◌≡◌, ℕ, ◌<◌, ◌≤◌, List, [], ◌∷◌, Some, None, true, slice_get, take};
 ghost use Rattle.sh_types.specs.declared.runs.Hart.{Hart};

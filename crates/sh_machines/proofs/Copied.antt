@@ -1,3 +1,4 @@
+-- SPDX-License-Identifier: Apache-2.0
 -- The words of a copy: at the place of a pair stands the pair's word, and at a guard 0.
 use Rattle.std.proofs.Common.{◌≡◌, ◌≢◌, ℕ, zero, suc, ◌+◌, ◌-◌, ◌*◌, ◌/◌, ◌<◌, List, [], ◌∷◌, refl, sym, ap, ◌∙◌, arith, length, Bool, true, false, not, true≢false, Some, None}
 use Rattle.std.specs.Prelude.{slice_index, slice_index_or, ◌==◌, ◌&&◌}

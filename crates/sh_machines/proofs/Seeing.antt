@@ -1,3 +1,4 @@
+-- SPDX-License-Identifier: Apache-2.0
 -- What comes of an instruction depends on the word that it touches.
 use Rattle.std.proofs.Common.{◌≡◌, ℕ, Some, refl, ap}
 use Rattle.sh_types.specs.declared.runs.Hart.{Hart}

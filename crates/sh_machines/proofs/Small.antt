@@ -1,3 +1,4 @@
+-- SPDX-License-Identifier: Apache-2.0
 -- The small hart's instructions come out as they are said to.
 use Rattle.std.proofs.Common.{◌≡◌, pos, Some, None, [], ◌∷◌, refl}
 use Rattle.sh_types.specs.declared.code.CodeRef.TheVariants.{Root}

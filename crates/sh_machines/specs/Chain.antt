@@ -1,3 +1,4 @@
+-- SPDX-License-Identifier: Apache-2.0
 -- The frames of a hart, from its pc on, when they are sound, and what points into a copy. Calls and frames are those of
 -- the RISC-V psABI, "Integer Calling Convention"; the rest is this project's own.
 use Rattle.std.specs.Prelude.{◌≡◌, ◌≢◌, ◌⊎◌, ℕ, ◌+◌, ◌*◌, ◌%◌, ◌^◌, ◌<◌, ◌≤◌, ◌==◌, ◌||◌, Bool, true, false, Option, Some, None, List, [], ◌∷◌, slice_get, slice_index, if◌then◌else◌}

@@ -1,3 +1,4 @@
+-- SPDX-License-Identifier: Apache-2.0
 -- The class of a word within its function: the first row of a table that applies. The kinds of records are those of the
 -- RISC-V ELF psABI, "Relocations"; the classes and the rules are this project's own.
 use Rattle.std.specs.Prelude.{ℕ, ℤ, pos, negsuc, zero, suc, ◌+◌, ◌-◌, ◌*◌, ◌%◌, ◌==◌, ◌&&◌, ◌||◌, ◌+ℤ◌, nat_le, nat_lt, not, Bool, false, Option, Some, None, List, [], ◌∷◌, map, slice_index, slice_index_or, if◌then◌else◌}

@@ -1,3 +1,4 @@
+-- SPDX-License-Identifier: Apache-2.0
 -- Which registers hold a known number, from barrier to word: LUI gives one, and ADDI, ADDIW and SLLI of a known register
 -- do (RISC-V Unprivileged ISA, "Integer Computational Instructions"). That no more is known is this project's own.
 use Rattle.std.specs.Prelude.{ℕ, zero, suc, ◌+◌, ◌*◌, ◌/◌, ◌==◌, ◌&&◌, ◌||◌, Bool, true, false, Option, Some, None, List, [], ◌∷◌, replicate, slice_set, slice_index, slice_index_or, if◌then◌else◌}

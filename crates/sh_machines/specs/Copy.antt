@@ -1,3 +1,4 @@
+-- SPDX-License-Identifier: Apache-2.0
 -- The copy of a layout: the words of the image where the layout puts them, with direct calls and jumps retargeted and
 -- with the forms that only copies have. This project's own.
 use Rattle.std.specs.Prelude.{ℕ, ℤ, pos, zero, suc, ◌+◌, ◌*◌, ◌/◌, ◌%◌, ◌^◌, ◌≤◌, ◌≡◌, ◌==◌, ◌&&◌, ◌-ℤ◌, nat_lt, Bool, true, false, Option, Some, None, List, map, slice_index, if◌then◌else◌, length}

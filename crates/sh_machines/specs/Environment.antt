@@ -1,3 +1,4 @@
+-- SPDX-License-Identifier: Apache-2.0
 -- The environment calls, from the arguments and from what both machines have. This project's own; the numbers 63, 64, 93
 -- and 94 and the answers are Linux's of the same names.
 use Rattle.std.specs.Prelude.{ℕ, ◌-◌, ◌%◌, ◌^◌, ◌==◌, ◌||◌, nat_lt, Bool, true, false, Option, Some, None, List, [], length, take, slice_get, if◌then◌else◌}

@@ -1,3 +1,4 @@
+-- SPDX-License-Identifier: Apache-2.0
 -- Events: when each is allowed, and what it leaves. This project's own.
 use Rattle.std.specs.Prelude.{◌≡◌, ℕ, zero, suc, ◌+◌, ◌*◌, ◌==◌, ◌&&◌, ◌||◌, nat_lt, Bool, true, false, not, Option, Some, None, List, [], ◌∷◌, ◌++◌, replicate, slice_get, slice_index, slice_set, if◌then◌else◌}
 use Rattle.sh_types.specs.declared.code.Pair.{Pair}

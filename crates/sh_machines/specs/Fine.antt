@@ -1,3 +1,4 @@
+-- SPDX-License-Identifier: Apache-2.0
 -- The images that are run: words, classes and frames fit each other. This project's own.
 use Rattle.std.specs.Prelude.{◌≡◌, ◌≢◌, ℕ, ◌<◌, ◌≤◌, ◌%◌, ◌^◌, ◌==◌, ◌&&◌, ◌||◌, true, Option, Some, None, length, slice_index, slice_get}
 use Rattle.sh_types.specs.declared.code.FrameState.{FrameState}

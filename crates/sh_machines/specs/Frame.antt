@@ -1,3 +1,4 @@
+-- SPDX-License-Identifier: Apache-2.0
 -- Frames: what an instruction does to a frame's state, and tables of states that are closed under the words of their
 -- functions. A state says how far sp is below its value on entry and where the return address is. (RISC-V psABI, "Integer Calling Convention"; the rules are this project's own.)
 use Rattle.std.specs.Prelude.{◌≡◌, ◌≢◌, ℕ, ℤ, pos, ◌+◌, ◌%◌, ◌^◌, ◌<◌, ◌≤◌, ◌==◌, ◌&&◌, Bool, true, false, Option, Some, None, slice_get, length, if◌then◌else◌}

@@ -1,3 +1,4 @@
+-- SPDX-License-Identifier: Apache-2.0
 -- The frame grammar: what each word of a function demands of a frame's state, the states that follow, and the rule that
 -- is broken. Points are word numbers. (RISC-V psABI, "Integer Calling Convention"; the rules are this project's own.)
 use Rattle.std.specs.List.{AllByRecursion}

@@ -1,3 +1,4 @@
+-- SPDX-License-Identifier: Apache-2.0
 -- What the word at a pair does: its class, and by its frame's state whether it is a save or a restore. Both machines
 -- go by kinds; a target is a pair on the unmoved image and an address in a copy. (RISC-V Unprivileged ISA, chapters
 -- "RV32I Base Integer Instruction Set" and "RV64I Base Integer Instruction Set".)

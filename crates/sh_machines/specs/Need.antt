@@ -1,3 +1,4 @@
+-- SPDX-License-Identifier: Apache-2.0
 -- What one instruction demands of memory, from the hart alone, and what it makes of the hart and of that one word.
 -- No machine has a part in it. An access is aligned (RISC-V Unprivileged ISA, "Load and Store Instructions"; that
 -- every misaligned one traps is this project's own), so it touches one aligned word of eight bytes at most.

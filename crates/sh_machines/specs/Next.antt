@@ -1,3 +1,4 @@
+-- SPDX-License-Identifier: Apache-2.0
 -- Which instructions and which events may come next, by the unmoved machine and by where a journal's pace stands: there
 -- are no layouts in it. This project's own.
 use Rattle.std.specs.Prelude.{ℕ, ◌+◌, ◌==◌, ◌&&◌, nat_lt, Bool, true, false, not, List, [], ◌∷◌, replicate}

@@ -1,3 +1,4 @@
+-- SPDX-License-Identifier: Apache-2.0
 -- Instructions of a hart that are run ahead: the words that they touch, as they were before the first of them, and what
 -- they leave. Only these words and the hart go into it. This project's own.
 use Rattle.std.specs.Prelude.{◌≡◌, ℕ, zero, suc, ◌+◌, ◌==◌, ◌||◌, Bool, true, false, Option, Some, None, List, [], ◌∷◌, ◌++◌, map, slice_set, if◌then◌else◌}

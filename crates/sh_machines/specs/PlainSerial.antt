@@ -1,3 +1,4 @@
+-- SPDX-License-Identifier: Apache-2.0
 -- The serial order of the unmoved machine alone: turns, with no layout and no period. This project's own.
 use Rattle.std.specs.Prelude.{ℕ, zero, suc, ◌+◌, ◌-◌, ◌==◌, ◌||◌, Bool, not, List, [], ◌∷◌, ◌++◌, min, replicate, if◌then◌else◌}
 use Rattle.sh_types.specs.declared.code.Image.{Image}

@@ -1,3 +1,4 @@
+-- SPDX-License-Identifier: Apache-2.0
 -- The serial order, by the unmoved machine alone: a function, without layouts and without a seed. This project's own.
 use Rattle.std.specs.Prelude.{ℕ, zero, suc, ◌+◌, ◌-◌, ◌/◌, ◌%◌, ◌==◌, ◌&&◌, ◌||◌, nat_le, nat_lt, Bool, true, false, not, Option, Some, None, List, [], ◌∷◌, ◌++◌, min, slice_get, if◌then◌else◌}
 use Rattle.sh_types.specs.declared.code.Image.{Image}

@@ -1,3 +1,4 @@
+-- SPDX-License-Identifier: Apache-2.0
 -- The machine that runs from moved copies: addresses in place of pairs, sealed return words, layouts that come and go.
 -- Instructions are those of the RISC-V Unprivileged ISA; the rest is this project's own.
 use Rattle.std.specs.Prelude.{ℕ, ◌+◌, ◌*◌, ◌/◌, ◌%◌, ◌==◌, ◌&&◌, ◌||◌, Bool, true, false, Option, Some, None, List, [], ◌∷◌, ◌++◌, length, map, drop, slice_get, slice_index, slice_set, if◌then◌else◌}

@@ -1,3 +1,4 @@
+-- SPDX-License-Identifier: Apache-2.0
 -- A small hart, a small memory and a small input, for laws by values. This project's own.
 use Rattle.std.specs.Prelude.{ℕ, true, Some, None, List, [], ◌∷◌, replicate, slice_set}
 use Rattle.sh_types.specs.declared.code.Pair.{Pair}

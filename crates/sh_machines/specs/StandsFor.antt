@@ -1,3 +1,4 @@
+-- SPDX-License-Identifier: Apache-2.0
 -- When a shuffled state stands for an unmoved one. This project's own.
 use Rattle.std.specs.Prelude.{◌≡◌, ◌≢◌, ℕ, ◌*◌, true, Option, Some, None, List, [], ◌∷◌, length, slice_index, slice_get}
 use Rattle.sh_types.specs.declared.code.CodeRef.{CodeRef}

@@ -1,3 +1,4 @@
+-- SPDX-License-Identifier: Apache-2.0
 -- What loading finds of an image's words: each function has its words and the rows of its frame, which are the least that
 -- the grammar allows, and the classes name fitting targets. This project's own.
 use Rattle.std.specs.Prelude.{◌≡◌, ◌≢◌, ◌⊎◌, ℕ, ◌+◌, ◌*◌, ◌%◌, ◌<◌, ◌≤◌, Some, List, [], length, slice_get, slice_index, slice_index_or}

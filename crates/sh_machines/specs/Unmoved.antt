@@ -1,3 +1,4 @@
+-- SPDX-License-Identifier: Apache-2.0
 -- The machine that never moves: pairs in place of addresses, and return addresses that are no numbers. There are no
 -- layouts, places or keys in it. Instructions are those of the RISC-V Unprivileged ISA (RV64I, M, A); calls, returns,
 -- saves and restores are those of the RISC-V psABI, "Integer Calling Convention" (ra is x1, sp is x2).

@@ -1,3 +1,4 @@
+-- SPDX-License-Identifier: Apache-2.0
 -- Use of a return address as data, from the unmoved state alone. Which registers an instruction reads, and how many
 -- bytes it touches, is said by its row of the manual's table (RISC-V Unprivileged ISA, "Base Instruction Formats" and
 -- "RV32/64G Instruction Set Listings"); the rest is this project's own.

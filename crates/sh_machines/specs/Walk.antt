@@ -1,3 +1,4 @@
+-- SPDX-License-Identifier: Apache-2.0
 -- The walk: the least point that has a state and was not examined is examined next. This project's own.
 use Rattle.std.specs.Prelude.{◌≡◌, ℕ, zero, suc, ◌+◌, ◌<◌, ◌⊎◌, IsSome, Bool, Option, Some, None, List, [], ◌∷◌, replicate, slice_index_or, slice_set, nat_lt, if◌then◌else◌, length}
 use Rattle.std.specs.Ordering.{nat_cmp}

@@ -1,3 +1,4 @@
+// SPDX-License-Identifier: Apache-2.0
 //! Laws of the definitions, as clauses of functions that do nothing.
 ghost use Rattle.std.specs.Prelude.{◌≡◌, ℕ, pos, Some, None, [], ◌∷◌, true};
 ghost use Rattle.sh_types.specs.declared.code.CodeRef.TheVariants.{Root};

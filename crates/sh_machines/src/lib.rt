@@ -1,3 +1,4 @@
+// SPDX-License-Identifier: Apache-2.0
 //! Both machines, what happens to them, and what ties them together: the definitions stand in specs/.
 #![tactic(auto)]
 

@@ -1,3 +1,4 @@
+-- SPDX-License-Identifier: Apache-2.0
 -- The numbers of this machine, each named once: where memory and cells lie, how much code there may be, how many harts
 -- and how deep a frame. This project's own.
 use Rattle.std.specs.Prelude.{ℕ, ◌/◌, ◌^◌}

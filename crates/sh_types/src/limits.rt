@@ -1,3 +1,4 @@
+// SPDX-License-Identifier: Apache-2.0
 //! The numbers of this machine, as specs/Limits has them for contracts.
 
 /// How many cells there are. A layout lies in one.

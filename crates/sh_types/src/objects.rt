@@ -1,3 +1,4 @@
+// SPDX-License-Identifier: Apache-2.0
 //! Objects: what the assembler makes of a source.
 use crate::bytes::Bytes;
 use crate::code::Function;

@@ -1,3 +1,4 @@
+// SPDX-License-Identifier: Apache-2.0
 //! Symbols and sections of an ELF-64 file (System V gABI, "Symbol Table", "Sections").
 use crate::names::SymbolName;
 

@@ -1,3 +1,4 @@
+-- SPDX-License-Identifier: Apache-2.0
 -- The answer, by what came of the loads and how it was delivered.
 use Rattle.std.proofs.Common.{false, ◌≡◌, ◌≢◌, ◌≤◌, ℕ, List, sym, ◌∙◌, ap, subst, inl, inr, arith}
 use Rattle.std.specs.Prelude.{Option, Some, None, IsSomeAnd, Result, Ok, Err, IfOk, OnErr, if◌then◌else◌}

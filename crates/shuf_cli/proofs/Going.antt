@@ -1,3 +1,4 @@
+-- SPDX-License-Identifier: Apache-2.0
 -- What a row of two loads comes to, load by load.
 use Rattle.std.proofs.Common.{ℕ, List, sym, subst}
 use Rattle.std.specs.Prelude.{◌≡◌, Option, Some, None, IsSomeAnd, Result, Ok, Err, IfOk, OnErr}

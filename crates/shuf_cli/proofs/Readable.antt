@@ -1,3 +1,4 @@
+-- SPDX-License-Identifier: Apache-2.0
 -- What the first load of a row gave, by what is held.
 use Rattle.std.proofs.Common.{◌≡◌, ◌<◌, ◌≤◌, ◌+◌, ℕ, List, [], ◌∷◌, Bool, true, false, refl, sym, ◌∙◌, ap, subst, length, take, length-take, arith}
 use Rattle.std.specs.Prelude.{⊤, Option, Some, None, IsSomeAnd, MatchOption, nat_lt, if◌then◌else◌}

@@ -1,3 +1,4 @@
+-- SPDX-License-Identifier: Apache-2.0
 -- The loads of a call, and what is due by them.
 use Rattle.std.specs.Prelude.{◌≡◌, List, ℕ, ◌≤◌, length, [], ◌∷◌, ◌++◌, Option, Some, IsSome, MatchOption, ⊤}
 use Rattle.sh_base.specs.Told.{FileAnswer}

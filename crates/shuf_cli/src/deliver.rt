@@ -1,3 +1,4 @@
+// SPDX-License-Identifier: Apache-2.0
 //! How what is due is delivered: the store first, then out, then the report.
 ghost use Rattle.std.specs.Prelude.{◌≡◌, ◌≢◌, None, IfOk, OnErr, MatchOption, IsSomeAnd};
 ghost use Rattle.std.specs.Bool.{OnTrue, OnFalse};

@@ -1,3 +1,4 @@
+// SPDX-License-Identifier: Apache-2.0
 //! A file or what is due in its place, and the answer.
 
 use cli_rows::Due;

@@ -1,3 +1,4 @@
+// SPDX-License-Identifier: Apache-2.0
 //! The command line: what the commands load, how what is due is delivered, and the top call.
 #![tactic(auto)]
 

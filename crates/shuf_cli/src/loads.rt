@@ -1,3 +1,4 @@
+// SPDX-License-Identifier: Apache-2.0
 //! The loads of a command.
 ghost use Rattle.std.specs.Prelude.{List, ℕ, IfOk, OnErr};
 ghost use Rattle.cli_rows.specs.declared.due.Due.{Due};

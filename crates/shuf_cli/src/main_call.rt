@@ -1,3 +1,4 @@
+// SPDX-License-Identifier: Apache-2.0
 //! The top call with workers.
 ghost use Rattle.cli_words.specs.Texts.{texts};
 ghost use Rattle.cli_words.specs.Words.{command_of};

@@ -1,3 +1,4 @@
+// SPDX-License-Identifier: Apache-2.0
 //! The commands, a function each: what it loads, and what is due by that.
 ghost use Rattle.std.specs.Prelude.{IfOk, OnErr, Some};
 ghost use Rattle.image_rules.specs.Framed.{refusal_of};

@@ -1,3 +1,4 @@
+-- SPDX-License-Identifier: Apache-2.0
 -- A Run event, in the journal.
 use Rattle.std.proofs.Common.{◌≡◌, ℕ, Bool, true, false, Option, Some, None, List, [], ◌∷◌, ◌++◌, refl, sym, ◌∙◌, subst}
 use Rattle.std.specs.Prelude.{slice_get, ◌&&◌, if◌then◌else◌}

@@ -1,3 +1,4 @@
+// SPDX-License-Identifier: Apache-2.0
 //! What an event needs before it happens.
 ghost use Rattle.std.specs.Prelude.{◌≡◌, ◌<◌, None, IfErr, OnOk, vec_len, vec_capacity};
 ghost use Rattle.shuf_machine.specs.Refusal.{IsCause};

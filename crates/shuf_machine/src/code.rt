@@ -1,3 +1,4 @@
+// SPDX-License-Identifier: Apache-2.0
 //! The code that is run, with where it comes from.
 use crate::answers::Origin;
 use code_copier::{Blank, Template};

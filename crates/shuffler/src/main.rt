@@ -1,3 +1,4 @@
+// SPDX-License-Identifier: Apache-2.0
 //! Makes the real files, sinks and seed, and calls the top call.
 #![tactic(auto)]
 

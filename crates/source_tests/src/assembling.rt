@@ -1,3 +1,4 @@
+// SPDX-License-Identifier: Apache-2.0
 //! What comes of a source. These functions have no contract, so that their callers do not carry that of the assembler.
 use asm_text::{AsmFault, Source, read};
 use elf_write::{assembled_objects_are_writable, write_elf};

@@ -1,3 +1,4 @@
+// SPDX-License-Identifier: Apache-2.0
 //! Which line of a source is refused.
 use crate::assembling::fault_of;
 use asm_text::{AsmFault, AsmRule};

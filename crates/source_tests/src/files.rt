@@ -1,3 +1,4 @@
+// SPDX-License-Identifier: Apache-2.0
 //! The file of the first guest's source.
 use crate::assembling::file_of;
 

@@ -1,3 +1,4 @@
+// SPDX-License-Identifier: Apache-2.0
 //! Tests of the assembler: texts, the lines of faults, and the file of a source.
 #![tactic(auto)]
 

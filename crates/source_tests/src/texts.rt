@@ -1,3 +1,4 @@
+// SPDX-License-Identifier: Apache-2.0
 //! How many statements texts have, and which of their lines is refused.
 use crate::assembling::source_of;
 use asm_text::{AsmRule, LineFault};

@@ -1,3 +1,4 @@
+-- SPDX-License-Identifier: Apache-2.0
 -- Which mnemonics of the opcode AMO are what ("A" extension).
 use Rattle.std.proofs.Common.{◌≡◌, ◌==◌, ◌&&◌, not, IsTrue, false, refl}
 use Rattle.rv_table.specs.declared.instructions.Op.{Op}

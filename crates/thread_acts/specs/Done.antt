@@ -1,3 +1,4 @@
+-- SPDX-License-Identifier: Apache-2.0
 -- What the code answers and leaves for an instruction that came out so. This project's own.
 use Rattle.std.specs.Prelude.{◌≡◌, ℕ, None}
 use Rattle.sh_machines.specs.Need.{Outcome, Goes, Puts, Calls, Quits, Traps, Leaks, words_after}

@@ -1,3 +1,4 @@
+-- SPDX-License-Identifier: Apache-2.0
 -- How an access that memory refused comes out. (That misaligned accesses and those of return words are refused is this
 -- project's own.)
 use Rattle.std.specs.Prelude.{ℕ}

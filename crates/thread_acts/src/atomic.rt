@@ -1,3 +1,4 @@
+// SPDX-License-Identifier: Apache-2.0
 //! Load-reserved, store-conditional and atomic memory operations (RISC-V Unprivileged ISA, "A" extension).
 ghost use Rattle.std.specs.Prelude.{◌≡◌, ◌+◌, ◌^◌, ◌<◌, ◌==◌, ◌&&◌, IsTrue, true, false, slice_index};
 ghost use Rattle.rv_table.specs.Arithmetic.{is_amo};

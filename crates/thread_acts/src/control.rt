@@ -1,3 +1,4 @@
+// SPDX-License-Identifier: Apache-2.0
 //! Branches, calls and jumps.
 ghost use Rattle.std.specs.Prelude.{◌≡◌, ℕ, ℤ, ◌+◌, ◌^◌, ◌<◌, IsTrue, List, Option, None, slice_index};
 ghost use Rattle.rv_table.specs.Arithmetic.{is_branch};

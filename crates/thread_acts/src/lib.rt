@@ -1,3 +1,4 @@
+// SPDX-License-Identifier: Apache-2.0
 //! What one instruction of a hart does on the image that never moves, kind by kind.
 #![tactic(auto)]
 

@@ -1,3 +1,4 @@
+// SPDX-License-Identifier: Apache-2.0
 //! Return addresses: how they are saved, taken back and gone to (RISC-V psABI, "Integer Calling Convention": ra is x1,
 //! sp is x2).
 ghost use Rattle.std.specs.Prelude.{◌≡◌, ℕ, ℤ, ◌+◌, ◌^◌, ◌<◌, IfOk, List, OnErr};

@@ -1,3 +1,4 @@
+// SPDX-License-Identifier: Apache-2.0
 //! The state of a hart on the image that never moves.
 
 use rv_table::Reservation;

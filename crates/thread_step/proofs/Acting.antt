@@ -1,3 +1,4 @@
+-- SPDX-License-Identifier: Apache-2.0
 -- That an instruction was done, where its kind is known otherwise, and where it only traps or calls.
 use Rattle.std.proofs.Common.{◌≡◌, ℕ, List, true, false, refl, sym, ap, subst}
 use Rattle.std.specs.Prelude.{Result, IfOk, ◌&&◌, slice_index}

@@ -1,3 +1,4 @@
+-- SPDX-License-Identifier: Apache-2.0
 -- The kind of the word at a pair, by what is looked up there.
 use Rattle.std.proofs.Common.{◌≡◌, ◌<◌, false, true, Some, None, refl, arith}
 use Rattle.std.specs.Prelude.{◌==◌, slice_index}

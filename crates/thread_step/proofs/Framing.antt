@@ -1,3 +1,4 @@
+-- SPDX-License-Identifier: Apache-2.0
 -- Saves and restores, by what the instruction says and what the frame's state says.
 use Rattle.std.proofs.Common.{◌≡◌, Bool, true, false, Option, Some, None, refl, ap, ◌∙◌}
 use Rattle.std.specs.Prelude.{IsTrue, ◌&&◌}

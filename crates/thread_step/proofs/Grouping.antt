@@ -1,3 +1,4 @@
+-- SPDX-License-Identifier: Apache-2.0
 -- What mnemonics do, by their opcodes.
 use Rattle.std.proofs.Common.{◌≡◌, ℕ, ◌⊎◌, inl, inr, false, refl, arith}
 use Rattle.std.specs.Prelude.{IsTrue, ◌==◌, ◌||◌, ◌&&◌}

@@ -1,3 +1,4 @@
+-- SPDX-License-Identifier: Apache-2.0
 -- What an instruction that stores nothing leaves where it is not done: nothing has changed.
 use Rattle.std.proofs.Common.{◌≡◌, ℕ, List, Bool, true, false, subst, ap, sym, ◌∙◌}
 use Rattle.std.specs.Bool.{OnFalse, OnTrue}

@@ -1,3 +1,4 @@
+-- SPDX-License-Identifier: Apache-2.0
 -- The registers that an instruction names, and a word without an instruction.
 use Rattle.std.proofs.Common.{◌≡◌, ℕ, None, refl, arith}
 use Rattle.rv_table.specs.Decoding.{decoded, op_in}

@@ -1,3 +1,4 @@
+-- SPDX-License-Identifier: Apache-2.0
 -- That an instruction of a kind was done. This project's own.
 use Rattle.std.specs.Prelude.{ℕ, List, Bool, true, false, None}
 use Rattle.rv_table.specs.Arithmetic.{is_branch}

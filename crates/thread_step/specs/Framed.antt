@@ -1,3 +1,4 @@
+-- SPDX-License-Identifier: Apache-2.0
 -- Saves and restores in two parts: what the instruction says, and what the frame's state says. (RISC-V psABI, "Integer
 -- Calling Convention": ra is x1 and sp is x2.)
 use Rattle.std.specs.Prelude.{ℤ, ◌==◌, ◌&&◌, Bool, false, Option, Some, None}

@@ -1,3 +1,4 @@
+-- SPDX-License-Identifier: Apache-2.0
 -- What the code of an image has beside it: for each word the number that it has as a literal. This project's own.
 use Rattle.std.specs.Prelude.{◌≡◌, ℕ, ◌*◌, ◌/◌, ◌<◌, List, [], length, slice_index, slice_index_or}
 use Rattle.sh_machines.specs.Copy.{literal_number}

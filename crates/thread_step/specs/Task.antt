@@ -1,3 +1,4 @@
+-- SPDX-License-Identifier: Apache-2.0
 -- What the code takes the word at a pair for, as one of the kinds of words on the unmoved image.
 use Rattle.std.specs.Prelude.{◌≡◌, ◌<◌, ◌==◌, false, IsTrue}
 use Rattle.rv_operands.specs.Registers.{NamesRegisters}

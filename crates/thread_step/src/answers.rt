@@ -1,3 +1,4 @@
+// SPDX-License-Identifier: Apache-2.0
 //! The answer of an instruction that is trapped.
 ghost use Rattle.std.specs.Prelude.{◌≡◌};
 

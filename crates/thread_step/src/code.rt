@@ -1,3 +1,4 @@
+// SPDX-License-Identifier: Apache-2.0
 //! The code of an image, as an interpreter looks it up.
 ghost use Rattle.std.specs.Prelude.{◌≡◌, ◌+◌, ◌<◌, ◌^◌, ◌%◌, ◌==◌, IfOk, IfSome, slice_index};
 ghost use Rattle.std.specs.Option.{IfNone};

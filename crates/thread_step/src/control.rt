@@ -1,3 +1,4 @@
+// SPDX-License-Identifier: Apache-2.0
 //! What tasks that touch no word of memory do: numbers, jumps, branches and calls.
 ghost use Rattle.std.specs.Prelude.{◌≡◌, ◌+◌, ◌<◌, ◌^◌, ◌&&◌, IsTrue, false};
 ghost use Rattle.rv_operands.specs.Registers.{NamesRegisters};

@@ -1,3 +1,4 @@
+// SPDX-License-Identifier: Apache-2.0
 //! What a task does to a hart and to memory.
 ghost use Rattle.std.specs.Prelude.{◌≡◌, ◌+◌, ◌<◌, ◌^◌, IfOk, OnErr};
 ghost use Rattle.thread_step.specs.Doing.{Does};

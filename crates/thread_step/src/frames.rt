@@ -1,3 +1,4 @@
+// SPDX-License-Identifier: Apache-2.0
 //! The tasks of words of the class Plain. By the frame's state `sd ra,k(sp)` can be a save and `ld ra,k(sp)` a restore
 //! (RISC-V psABI, "Integer Calling Convention": ra is x1, sp is x2).
 ghost use Rattle.std.specs.Prelude.{◌≡◌, true};

@@ -1,3 +1,4 @@
+// SPDX-License-Identifier: Apache-2.0
 //! One instruction of a hart on the image that never moves: what its word does, by the word's class, its mnemonic and the
 //! frame's state. All that hangs on the image alone is found once, when its code is made.
 #![tactic(auto)]

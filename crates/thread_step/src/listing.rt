@@ -1,3 +1,4 @@
+// SPDX-License-Identifier: Apache-2.0
 //! For each word of an image the task that it is.
 ghost use Rattle.std.specs.Prelude.{◌/◌, IfOk, IfSome, length, slice_index};
 ghost use Rattle.std.specs.Option.{IfNone};

@@ -1,3 +1,4 @@
+// SPDX-License-Identifier: Apache-2.0
 //! For each word of an image the number that it has as a literal.
 ghost use Rattle.std.specs.Prelude.{◌≡◌, ◌+◌, ◌/◌, ◌<◌, ◌≤◌, IfOk, length, slice_index};
 ghost use Rattle.sh_machines.specs.Copy.{literals_below};

@@ -1,3 +1,4 @@
+// SPDX-License-Identifier: Apache-2.0
 //! The tasks of instructions that go by their mnemonic alone: arithmetic, loads, stores and the like.
 ghost use Rattle.std.specs.Prelude.{◌≡◌, ◌==◌, IsTrue};
 ghost use Rattle.rv_operands.specs.Registers.{NamesRegisters};

@@ -1,3 +1,4 @@
+// SPDX-License-Identifier: Apache-2.0
 //! Tasks that store nothing, each with a plain answer: whether it is done. Where it is not, nothing has changed, and the
 //! instruction is done the long way, which says what comes of it.
 ghost use Rattle.std.specs.Prelude.{◌≡◌, ◌+◌, ◌<◌, ◌^◌, ℕ, List, IsTrue, None};

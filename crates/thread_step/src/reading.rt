@@ -1,3 +1,4 @@
+// SPDX-License-Identifier: Apache-2.0
 //! What an image has at a pair.
 ghost use Rattle.std.specs.Prelude.{◌≡◌, ◌+◌, ◌/◌, ◌<◌, ◌^◌, IfNone, IfSome, [], length, slice_index, slice_index_or};
 ghost use Rattle.rv_operands.specs.Registers.{NamesRegisters};

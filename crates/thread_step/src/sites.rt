@@ -1,3 +1,4 @@
+// SPDX-License-Identifier: Apache-2.0
 //! The task of a word, by its class.
 ghost use Rattle.std.specs.Prelude.{◌≡◌, ◌<◌, slice_index};
 ghost use Rattle.rv_operands.specs.Registers.{NamesRegisters};

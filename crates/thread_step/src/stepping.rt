@@ -1,3 +1,4 @@
+// SPDX-License-Identifier: Apache-2.0
 //! One instruction, by its task.
 ghost use Rattle.std.specs.Prelude.{◌≡◌, ◌<◌, ◌%◌, IfOk, IsTrue, None, OnErr, slice_index};
 ghost use Rattle.std.specs.Bool.{OnFalse, OnTrue};

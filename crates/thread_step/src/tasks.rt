@@ -1,3 +1,4 @@
+// SPDX-License-Identifier: Apache-2.0
 //! What an instruction is to do. It hangs on the image alone, so it is found once.
 use rv_table::Instr;
 

@@ -1,3 +1,4 @@
+-- SPDX-License-Identifier: Apache-2.0
 -- Rows in order. This project's own.
 use Rattle.std.specs.Prelude.{ℕ, ◌<◌, List, length, slice_index}
 

@@ -1,3 +1,4 @@
+// SPDX-License-Identifier: Apache-2.0
 //! Tokens, the numbers that stand for functions and labels, and the row or the label that a number names.
 #![tactic(auto)]
 

@@ -1,3 +1,4 @@
+-- SPDX-License-Identifier: Apache-2.0
 -- Labels in order. This project's own.
 use Rattle.std.specs.Prelude.{ℕ, ◌≡◌, ◌≤◌, Some, List, slice_get}
 use Rattle.sh_types.specs.declared.code.Pair.{Pair}

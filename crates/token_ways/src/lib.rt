@@ -1,3 +1,4 @@
+// SPDX-License-Identifier: Apache-2.0
 //! Where an indirect call or jump leads, by the number that it computes: to the start of a function whose address is
 //! taken, to a label of its own function, or nowhere.
 #![tactic(auto)]

@@ -1,3 +1,4 @@
+// SPDX-License-Identifier: Apache-2.0
 //! Calls of the top call under the seed of zeros, and what comes of them. These functions have no contract, so that
 //! their callers do not carry that of the top call.
 use sh_base::{MemFiles, MemSink};

@@ -1,3 +1,4 @@
+// SPDX-License-Identifier: Apache-2.0
 //! A run of the first guest, which writes `hi` and a line feed and ends with code 0, over an output that fails.
 use crate::calls::run_without_output;
 use elf_table::first_guest::first_file;

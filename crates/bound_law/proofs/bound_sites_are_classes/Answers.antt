@@ -1,3 +1,4 @@
+-- SPDX-License-Identifier: Apache-2.0
 use Rattle.bound_law.proofs.Sited.{no_site, site_is}
 use Rattle.bound_law.proofs.bound_sites_are_classes.Goals as goal
 

@@ -1,3 +1,4 @@
+-- SPDX-License-Identifier: Apache-2.0
 use Rattle.std.proofs.Common.{sym}
 use Rattle.fn_lookup.proofs.Holding.{in_none, in_last}
 use Rattle.fn_lookup.proofs.holds.Goals as goal

@@ -1,3 +1,4 @@
+-- SPDX-License-Identifier: Apache-2.0
 use Rattle.std.proofs.Common.{sym}
 use Rattle.fn_lookup.proofs.Holding.{inside_none, inside_start, inside_last}
 use Rattle.fn_lookup.proofs.holds_inside.Goals as goal

@@ -1,3 +1,4 @@
+-- SPDX-License-Identifier: Apache-2.0
 use Rattle.std.proofs.Common.{◌≡◌, ◌%◌, ◌^◌, refl}
 use Rattle.hart_step.proofs.ByWord.{short_is}
 use Rattle.hart_step.proofs.short_step.Goals as goal

@@ -1,3 +1,4 @@
+-- SPDX-License-Identifier: Apache-2.0
 use Rattle.loaded_law.proofs.Bodies.{stays}
 use Rattle.loaded_law.proofs.Walked.{labels_rise, sites_many, words_few}
 use Rattle.loaded_law.proofs.bodies_can_be_walked.Goals as goal

@@ -1,3 +1,4 @@
+-- SPDX-License-Identifier: Apache-2.0
 use Rattle.elf_rules.specs.Relocs.{relocs_of}
 use Rattle.image_rules.specs.Framed.{framed_image}
 use Rattle.loaded_law.proofs.Loaded.{loaded}

@@ -1,3 +1,4 @@
+-- SPDX-License-Identifier: Apache-2.0
 use Rattle.loaded_law.proofs.Whole.{framed_apart, framed_full, framed_words}
 use Rattle.loaded_law.proofs.framed_images_are_whole.Goals as goal
 

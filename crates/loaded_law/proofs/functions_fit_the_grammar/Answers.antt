@@ -1,3 +1,4 @@
+-- SPDX-License-Identifier: Apache-2.0
 use Rattle.std.proofs.lemmas.Option.{slice_get_within}
 use Rattle.elf_rules.specs.Relocs.{relocs_of}
 use Rattle.image_rules.specs.Bound.{bound_image}

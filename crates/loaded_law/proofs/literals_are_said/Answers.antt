@@ -1,3 +1,4 @@
+-- SPDX-License-Identifier: Apache-2.0
 use Rattle.loaded_law.proofs.Literals.{framed_many, framed_said}
 use Rattle.loaded_law.proofs.literals_are_said.Goals as goal
 

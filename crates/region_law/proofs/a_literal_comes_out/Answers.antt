@@ -1,3 +1,4 @@
+-- SPDX-License-Identifier: Apache-2.0
 use Rattle.std.proofs.Common.{refl}
 use Rattle.elf_rules.specs.Relocs.{modulo}
 use Rattle.image_rules.specs.Binding.{literal_by}

@@ -1,3 +1,4 @@
+-- SPDX-License-Identifier: Apache-2.0
 use Rattle.region_law.proofs.Regions.{bound_apart}
 use Rattle.region_law.proofs.bound_regions_are_apart.Goals as goal
 

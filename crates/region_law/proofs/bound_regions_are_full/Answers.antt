@@ -1,3 +1,4 @@
+-- SPDX-License-Identifier: Apache-2.0
 use Rattle.region_law.proofs.Regions.{bound_full}
 use Rattle.region_law.proofs.bound_regions_are_full.Goals as goal
 

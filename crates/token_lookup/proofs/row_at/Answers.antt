@@ -1,3 +1,4 @@
+-- SPDX-License-Identifier: Apache-2.0
 use Rattle.std.proofs.Common.{arith, sym, ◌-◌, ◌/◌}
 use Rattle.token_lookup.proofs.Naming.{no_token, row_found, row_lost}
 use Rattle.token_lookup.proofs.row_at.Goals as goal

@@ -1,3 +1,4 @@
+-- SPDX-License-Identifier: Apache-2.0
 use Rattle.std.proofs.Common.{drop}
 use Rattle.asm_places.specs.Names.{functions_in}
 use Rattle.asm_places.proofs.Knowing.{Left}

@@ -1,3 +1,4 @@
+-- SPDX-License-Identifier: Apache-2.0
 use Rattle.std.proofs.Common.{◌≡◌, ◌≤◌, drop}
 use Rattle.asm_places.specs.Names.{unknown_line}
 use Rattle.asm_places.specs.Sets.{has}

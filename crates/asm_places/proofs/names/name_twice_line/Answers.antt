@@ -1,3 +1,4 @@
+-- SPDX-License-Identifier: Apache-2.0
 use Rattle.std.proofs.Common.{◌∙◌, sym, [], false}
 use Rattle.asm_places.specs.Names.{name_twice_line}
 use Rattle.asm_places.proofs.Naming.{ends, ran_out}

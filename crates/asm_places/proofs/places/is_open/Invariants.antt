@@ -1,3 +1,4 @@
+-- SPDX-License-Identifier: Apache-2.0
 use Rattle.std.proofs.Common.{◌≡◌, false, drop}
 use Rattle.asm_places.specs.Places.{is_open}
 use Rattle.asm_places.proofs.places.is_open.Given as goal

@@ -1,3 +1,4 @@
+-- SPDX-License-Identifier: Apache-2.0
 use Rattle.std.proofs.Common.{◌≡◌, ◌∙◌, true}
 use Rattle.asm_places.specs.Ranges.{is_in_range}
 use Rattle.asm_places.proofs.Ranging.{goes_on, few_functions}

@@ -1,3 +1,4 @@
+-- SPDX-License-Identifier: Apache-2.0
 use Rattle.std.proofs.Common.{arith}
 use Rattle.asm_places.proofs.Counting.{numbers_go_on, numbers_done}
 use Rattle.asm_places.proofs.symbols.all_numbers.Goals as goal

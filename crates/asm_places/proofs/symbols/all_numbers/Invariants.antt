@@ -1,3 +1,4 @@
+-- SPDX-License-Identifier: Apache-2.0
 use Rattle.std.proofs.Common.{◌≡◌, ◌+◌, drop}
 use Rattle.asm_places.proofs.Counting.{Standing}
 use Rattle.asm_places.proofs.symbols.all_numbers.Given as goal

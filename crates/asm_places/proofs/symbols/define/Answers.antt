@@ -1,3 +1,4 @@
+-- SPDX-License-Identifier: Apache-2.0
 use Rattle.std.proofs.Common.{◌∙◌, ap, Bool}
 use Rattle.std.specs.Prelude.{cond, Some}
 use Rattle.asm_places.proofs.Naming.{same_keys}

@@ -1,3 +1,4 @@
+-- SPDX-License-Identifier: Apache-2.0
 use Rattle.std.proofs.Common.{◌≡◌, ◌≤◌, false, drop}
 use Rattle.std.specs.Prelude.{None}
 use Rattle.asm_places.specs.Places.{first_place}

@@ -1,3 +1,4 @@
+-- SPDX-License-Identifier: Apache-2.0
 use Rattle.std.proofs.Common.{[]}
 use Rattle.asm_text.specs.Reading.{extended}
 use Rattle.asm_text.specs.Source.{line_of}

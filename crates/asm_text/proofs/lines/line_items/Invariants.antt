@@ -1,3 +1,4 @@
+-- SPDX-License-Identifier: Apache-2.0
 use Rattle.std.proofs.Common.{◌≡◌, [], length}
 use Rattle.asm_text.specs.declared.lines.Quote.TheVariants.{Outside}
 use Rattle.asm_text.specs.Reading.{extended}

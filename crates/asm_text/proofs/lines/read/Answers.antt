@@ -1,3 +1,4 @@
+-- SPDX-License-Identifier: Apache-2.0
 use Rattle.std.proofs.Common.{◌≡◌, ◌∙◌, ℕ, true, false, drop}
 use Rattle.std.specs.Prelude.{◌==◌, None}
 use Rattle.std.specs.List.{list_any}

@@ -1,3 +1,4 @@
+-- SPDX-License-Identifier: Apache-2.0
 use Rattle.asm_text.proofs.Growing.{labelled}
 use Rattle.asm_text.proofs.reading.push_statement.Goals as goal
 

@@ -1,3 +1,4 @@
+-- SPDX-License-Identifier: Apache-2.0
 use Rattle.std.proofs.Common.{◌≡◌, ℕ, length}
 use Rattle.std.specs.Prelude.{◌==◌}
 use Rattle.asm_text.specs.Statements.{each, value_of, parts, values_of}

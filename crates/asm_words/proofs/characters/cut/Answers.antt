@@ -1,3 +1,4 @@
+-- SPDX-License-Identifier: Apache-2.0
 use Rattle.std.proofs.Common.{◌≡◌, ◌∙◌, ◌+◌, ◌-◌, ℕ, List, length, take, drop, ap, eq-eqb, arith}
 use Rattle.std.specs.Prelude.{Some, ◌==◌}
 use Rattle.std.proofs.lemmas.Grind.{common_steps}

@@ -1,3 +1,4 @@
+-- SPDX-License-Identifier: Apache-2.0
 use Rattle.std.proofs.Common.{◌≡◌, ◌++◌, take, drop}
 use Rattle.asm_words.specs.Characters.{before, from, is_blank}
 use Rattle.asm_words.proofs.characters.first_word.Given as goal

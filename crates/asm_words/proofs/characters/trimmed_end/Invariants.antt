@@ -1,3 +1,4 @@
+-- SPDX-License-Identifier: Apache-2.0
 use Rattle.std.proofs.Common.{◌≡◌, ◌≤◌, length, take}
 use Rattle.asm_words.specs.Characters.{trimmed_end}
 use Rattle.asm_words.proofs.characters.trimmed_end.Given as goal

@@ -1,3 +1,4 @@
+-- SPDX-License-Identifier: Apache-2.0
 use Rattle.std.proofs.Common.{◌≡◌, drop}
 use Rattle.asm_words.specs.Characters.{trimmed_start}
 use Rattle.asm_words.proofs.characters.trimmed_start.Given as goal

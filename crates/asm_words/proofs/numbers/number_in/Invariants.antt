@@ -1,3 +1,4 @@
+-- SPDX-License-Identifier: Apache-2.0
 use Rattle.std.proofs.Common.{◌≡◌, ◌≤◌, ◌^◌, drop}
 use Rattle.asm_words.specs.Numbers.{digits}
 use Rattle.asm_words.proofs.numbers.number_in.Given as goal

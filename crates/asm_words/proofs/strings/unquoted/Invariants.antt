@@ -1,3 +1,4 @@
+-- SPDX-License-Identifier: Apache-2.0
 use Rattle.std.proofs.Common.{◌≡◌, false, drop}
 use Rattle.asm_words.specs.Strings.{quoted}
 use Rattle.asm_words.proofs.Quoting.{behind}

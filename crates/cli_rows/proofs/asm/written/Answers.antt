@@ -1,3 +1,4 @@
+-- SPDX-License-Identifier: Apache-2.0
 use Rattle.cli_rows.proofs.Assembling.{writable}
 use Rattle.cli_rows.proofs.asm.written.Goals as goal
 

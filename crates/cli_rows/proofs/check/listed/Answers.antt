@@ -1,3 +1,4 @@
+-- SPDX-License-Identifier: Apache-2.0
 use Rattle.cli_rows.proofs.Sizes.{few_functions}
 use Rattle.cli_rows.proofs.check.listed.Goals as goal
 

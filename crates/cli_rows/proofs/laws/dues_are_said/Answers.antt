@@ -1,3 +1,4 @@
+-- SPDX-License-Identifier: Apache-2.0
 use Rattle.cli_rows.proofs.Dues.{due_said}
 use Rattle.cli_rows.proofs.laws.dues_are_said.Goals as goal
 

@@ -1,3 +1,4 @@
+-- SPDX-License-Identifier: Apache-2.0
 use Rattle.cli_words.specs.declared.words.Command.TheVariants.{Run}
 use Rattle.cli_rows.specs.Run.{schedule}
 use Rattle.cli_rows.proofs.pace.runs_keep_pace.Goals as goal

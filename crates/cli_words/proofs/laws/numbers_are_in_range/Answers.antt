@@ -1,3 +1,4 @@
+-- SPDX-License-Identifier: Apache-2.0
 use Rattle.cli_words.proofs.Ranging.{command_ranged}
 use Rattle.cli_words.proofs.laws.numbers_are_in_range.Goals as goal
 

@@ -1,3 +1,4 @@
+-- SPDX-License-Identifier: Apache-2.0
 use Rattle.std.proofs.Common.{◌≡◌, ◌<◌, ◌^◌, ◌∙◌, ap, sym, true, arith}
 use Rattle.std.specs.Prelude.{option_and_then}
 use Rattle.cli_words.specs.Numbers.{is_decimal}

@@ -1,3 +1,4 @@
+-- SPDX-License-Identifier: Apache-2.0
 use Rattle.std.proofs.Common.{length}
 use Rattle.cli_words.proofs.reading.+read_on.Given as goal
 

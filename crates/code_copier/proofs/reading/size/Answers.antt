@@ -1,3 +1,4 @@
+-- SPDX-License-Identifier: Apache-2.0
 use Rattle.code_copier.proofs.Sizes.{size_got, size_past}
 use Rattle.code_copier.proofs.reading.size.Goals as goal
 

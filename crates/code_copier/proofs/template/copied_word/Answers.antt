@@ -1,3 +1,4 @@
+-- SPDX-License-Identifier: Apache-2.0
 use Rattle.std.proofs.Common.{length, sym, ap, ◌∙◌}
 use Rattle.rv_table.specs.Decoding.{decoded}
 use Rattle.sh_machines.specs.Copy.{goes_to, is_through}

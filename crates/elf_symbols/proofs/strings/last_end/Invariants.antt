@@ -1,3 +1,4 @@
+-- SPDX-License-Identifier: Apache-2.0
 use Rattle.std.proofs.Common.{◌≡◌, take}
 use Rattle.elf_symbols.specs.Zeros.{zero_end}
 use Rattle.elf_symbols.proofs.strings.last_end.Given as goal

@@ -1,3 +1,4 @@
+-- SPDX-License-Identifier: Apache-2.0
 use Rattle.std.proofs.Common.{◌≡◌, ◌++◌, drop}
 use Rattle.elf_symbols.specs.Zeros.{zeros_from}
 use Rattle.elf_symbols.proofs.strings.zero_places.Given as goal

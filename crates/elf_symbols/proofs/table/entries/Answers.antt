@@ -1,3 +1,4 @@
+-- SPDX-License-Identifier: Apache-2.0
 use Rattle.std.proofs.Common.{◌/◌}
 use Rattle.elf_rules.specs.Elf.{raw_symbol}
 use Rattle.elf_read.proofs.Places.{read_more, fits_more}

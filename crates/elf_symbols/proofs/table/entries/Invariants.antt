@@ -1,3 +1,4 @@
+-- SPDX-License-Identifier: Apache-2.0
 use Rattle.std.proofs.Common.{◌≡◌, ◌+◌, ◌*◌, ◌-◌, ◌/◌, ◌≤◌, ◌++◌, length}
 use Rattle.std.specs.Prelude.{map}
 use Rattle.elf_rules.specs.Elf.{raw_symbol, places}

@@ -1,3 +1,4 @@
+-- SPDX-License-Identifier: Apache-2.0
 use Rattle.asm_text.specs.Source.{source_of}
 use Rattle.rv_asm.specs.Object.{object_of}
 use Rattle.elf_write.proofs.Whole.{writable}

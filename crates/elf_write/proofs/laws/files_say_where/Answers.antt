@@ -1,3 +1,4 @@
+-- SPDX-License-Identifier: Apache-2.0
 use Rattle.elf_write.proofs.Saying.{says_all}
 use Rattle.elf_write.proofs.laws.files_say_where.Goals as goal
 

@@ -1,3 +1,4 @@
+-- SPDX-License-Identifier: Apache-2.0
 use Rattle.std.proofs.Common.{◌≡◌, ◌++◌, drop}
 use Rattle.elf_write.specs.Tables.{records}
 use Rattle.elf_write.proofs.records.put_records.Given as goal

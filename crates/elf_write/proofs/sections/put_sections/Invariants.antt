@@ -1,3 +1,4 @@
+-- SPDX-License-Identifier: Apache-2.0
 use Rattle.std.proofs.Common.{◌≡◌, ◌++◌, drop}
 use Rattle.elf_write.specs.Written.{section_headers}
 use Rattle.elf_write.proofs.sections.put_sections.Given as goal

@@ -1,3 +1,4 @@
+-- SPDX-License-Identifier: Apache-2.0
 use Rattle.std.proofs.Common.{◌≡◌, ◌+◌, length, drop}
 use Rattle.elf_write.specs.Parts.{string_table, names_in}
 use Rattle.elf_write.proofs.strings.strings_size.Given as goal

@@ -1,3 +1,4 @@
+-- SPDX-License-Identifier: Apache-2.0
 use Rattle.std.proofs.Common.{◌≡◌, ◌+◌, ◌^◌, ◌<◌, arith, List, ap, sym, subst, ◌∙◌, true, false}
 use Rattle.std.specs.List.{All}
 use Rattle.sh_types.specs.declared.objects.Mark.{Mark}

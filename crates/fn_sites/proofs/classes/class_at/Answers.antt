@@ -1,3 +1,4 @@
+-- SPDX-License-Identifier: Apache-2.0
 use Rattle.std.proofs.Common.{◌≡◌, ◌∙◌, ap, ℕ, ◌+◌, ◌*◌, Option}
 use Rattle.std.specs.Prelude.{slice_index}
 use Rattle.sh_types.specs.declared.relocs.Reloc.{Reloc}

@@ -1,3 +1,4 @@
+-- SPDX-License-Identifier: Apache-2.0
 use Rattle.std.proofs.Common.{◌∙◌, ap, sym}
 use Rattle.sh_machines.specs.Class.{Source}
 use Rattle.fn_sites.specs.Body.{source}

@@ -1,3 +1,4 @@
+-- SPDX-License-Identifier: Apache-2.0
 use Rattle.std.proofs.Common.{◌≡◌, ◌<◌, ◌^◌, ◌||◌, ℕ, drop}
 use Rattle.sh_machines.specs.Constants.{is_label_at}
 use Rattle.fn_sites.specs.Index.{is_among, label_number}

@@ -1,3 +1,4 @@
+-- SPDX-License-Identifier: Apache-2.0
 use Rattle.fn_sites.proofs.Listing.{count, class_there, none_there}
 use Rattle.fn_sites.proofs.laws.words_have_their_classes.Goals as goal
 

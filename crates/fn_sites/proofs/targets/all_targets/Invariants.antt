@@ -1,3 +1,4 @@
+-- SPDX-License-Identifier: Apache-2.0
 use Rattle.std.proofs.Common.{◌≡◌, ◌+◌, ◌*◌, ◌++◌, drop}
 use Rattle.fn_sites.specs.Targets.{targets_from}
 use Rattle.fn_sites.proofs.targets.all_targets.Given as goal

@@ -1,3 +1,4 @@
+-- SPDX-License-Identifier: Apache-2.0
 use Rattle.std.proofs.Common.{◌≡◌, ◌++◌, drop, All}
 use Rattle.fn_split.specs.Low.{EndsLow}
 use Rattle.fn_split.specs.Merge.{merged}

@@ -1,3 +1,4 @@
+-- SPDX-License-Identifier: Apache-2.0
 use Rattle.std.proofs.Common.{◌≡◌, drop}
 use Rattle.elf_rules.specs.Splitting as splitting
 use Rattle.fn_split.proofs.refusal.inside.Given as goal

@@ -1,3 +1,4 @@
+-- SPDX-License-Identifier: Apache-2.0
 use Rattle.std.proofs.Common.{◌≡◌, ◌++◌, drop}
 use Rattle.std.proofs.Common.{All}
 use Rattle.fn_split.specs.Low.{EndsLow}

@@ -1,3 +1,4 @@
+-- SPDX-License-Identifier: Apache-2.0
 use Rattle.std.proofs.Common.{None, ◌∙◌}
 use Rattle.std.specs.Prelude.{slice_index_or}
 use Rattle.frame_tables.specs.Body.{meant}

@@ -1,3 +1,4 @@
+-- SPDX-License-Identifier: Apache-2.0
 use Rattle.std.proofs.Common.{List, length, ap, ◌∙◌, sym, subst}
 use Rattle.sh_types.specs.declared.relocs.Reloc.{Reloc}
 use Rattle.guest_image.specs.Records.{AreFirst}

@@ -1,3 +1,4 @@
+-- SPDX-License-Identifier: Apache-2.0
 use Rattle.std.proofs.Common.{◌≡◌, ℕ, ◌<◌, ◌-◌, ◌∙◌, List, length, ap, arith, subst}
 use Rattle.std.specs.List.{AllZip, range_with_len}
 use Rattle.rayon.specs.Lists.{range_end, range_start}

@@ -1,3 +1,4 @@
+-- SPDX-License-Identifier: Apache-2.0
 use Rattle.std.proofs.Common.{◌≡◌, ◌+◌, ◌*◌, ◌++◌, drop}
 use Rattle.guest_image.specs.Literals.{literals_by}
 use Rattle.guest_image.proofs.literals.add_literals.Given as goal

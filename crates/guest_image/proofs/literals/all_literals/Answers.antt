@@ -1,3 +1,4 @@
+-- SPDX-License-Identifier: Apache-2.0
 use Rattle.std.proofs.Common.{◌<◌, length, arith}
 use Rattle.guest_image.proofs.Numbers.{function_more}
 use Rattle.guest_image.proofs.literals.all_literals.Goals as goal

@@ -1,3 +1,4 @@
+-- SPDX-License-Identifier: Apache-2.0
 use Rattle.std.proofs.Common.{◌≡◌, ◌++◌, drop}
 use Rattle.image_rules.specs.Framed.{all_literals}
 use Rattle.guest_image.specs.Literals.{framed}

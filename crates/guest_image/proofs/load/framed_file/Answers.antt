@@ -1,3 +1,4 @@
+-- SPDX-License-Identifier: Apache-2.0
 use Rattle.std.proofs.Common.{List, length, ap, ◌∙◌}
 use Rattle.sh_types.specs.declared.code.FrameTable.{FrameTable}
 use Rattle.image_rules.specs.Framed.{all_literals}

@@ -1,3 +1,4 @@
+-- SPDX-License-Identifier: Apache-2.0
 use Rattle.std.proofs.Common.{◌≡◌, ℕ, ◌*◌, ◌<◌, ◌≤◌, [], length}
 use Rattle.std.specs.Prelude.{All, slice_index, slice_index_or}
 use Rattle.sh_types.specs.declared.code.Region.{Region}

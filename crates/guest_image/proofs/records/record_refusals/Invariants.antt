@@ -1,3 +1,4 @@
+-- SPDX-License-Identifier: Apache-2.0
 use Rattle.std.proofs.Common.{◌≡◌, ℕ, ◌<◌, None, length, drop}
 use Rattle.std.specs.Prelude.{slice_index_or}
 use Rattle.image_rules.specs.Refusals.{refusal_or}

@@ -1,3 +1,4 @@
+-- SPDX-License-Identifier: Apache-2.0
 use Rattle.std.proofs.lemmas.List.{get_or_read}
 use Rattle.guest_image.specs.Records.{no_function}
 use Rattle.guest_image.proofs.Recorded.{home_from, last_none, last_some}

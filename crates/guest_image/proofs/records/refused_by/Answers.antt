@@ -1,3 +1,4 @@
+-- SPDX-License-Identifier: Apache-2.0
 use Rattle.std.proofs.Common.{sym, ◌∙◌}
 use Rattle.guest_image.proofs.Recorded.{before_all}
 use Rattle.guest_image.proofs.records.refused_by.Goals as goal

@@ -1,3 +1,4 @@
+-- SPDX-License-Identifier: Apache-2.0
 use Rattle.std.proofs.Crossing.{crosses, frees}
 use denote.Param.Send.{sendable}
 use Rattle.rayon.proofs.ListFacts.{IfOk-then}

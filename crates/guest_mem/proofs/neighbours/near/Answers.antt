@@ -1,3 +1,4 @@
+-- SPDX-License-Identifier: Apache-2.0
 use Rattle.std.proofs.Common.{◌+◌, ◌∙◌, sym, arith}
 use Rattle.guest_mem.proofs.Near.{near_same}
 use Rattle.guest_mem.proofs.neighbours.near.Goals as goal

@@ -1,3 +1,4 @@
+-- SPDX-License-Identifier: Apache-2.0
 use Rattle.std.proofs.Common.{◌≡◌, drop}
 use Rattle.guest_mem.specs.First.{rise_from}
 use Rattle.guest_mem.proofs.neighbours.rise.Given as goal

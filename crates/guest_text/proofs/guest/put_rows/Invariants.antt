@@ -1,3 +1,4 @@
+-- SPDX-License-Identifier: Apache-2.0
 use Rattle.std.proofs.Common.{◌≡◌, ◌++◌}
 use Rattle.guest_text.specs.Guest.{each, row_line}
 use Rattle.guest_text.proofs.guest.put_rows.Given as goal

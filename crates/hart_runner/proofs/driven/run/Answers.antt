@@ -1,3 +1,4 @@
+-- SPDX-License-Identifier: Apache-2.0
 use Rattle.std.proofs.Common.{◌≡◌, true, sym, ap, ◌∙◌, arith}
 use Rattle.sh_machines.specs.Event.{can_run}
 use Rattle.sh_machines.specs.Serial.{run_length}

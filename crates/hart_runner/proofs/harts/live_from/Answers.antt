@@ -1,3 +1,4 @@
+-- SPDX-License-Identifier: Apache-2.0
 use Rattle.std.proofs.Common.{sym, subst, arith}
 use Rattle.sh_machines.specs.StandsFor.{StandsFor}
 use Rattle.shuf_machine.specs.Past.{state_of}

@@ -1,3 +1,4 @@
+-- SPDX-License-Identifier: Apache-2.0
 use Rattle.std.proofs.Common.{◌≡◌, true, sym, subst, arith}
 use Rattle.std.specs.Prelude.{slice_get}
 use Rattle.sh_machines.specs.Event.{written}

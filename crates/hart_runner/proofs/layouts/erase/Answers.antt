@@ -1,3 +1,4 @@
+-- SPDX-License-Identifier: Apache-2.0
 use Rattle.std.proofs.Common.{◌-◌, ap, ◌∙◌}
 use Rattle.sh_types.specs.declared.runs.Event.TheVariants.{Erase}
 use Rattle.shuf_machine.specs.Past.{with_event, state_of}

@@ -1,3 +1,4 @@
+-- SPDX-License-Identifier: Apache-2.0
 use Rattle.std.proofs.Common.{sym, ◌∙◌}
 use Rattle.hart_runner.proofs.Linking.{linked}
 use Rattle.hart_runner.proofs.layouts.has_older.Goals as goal

@@ -1,3 +1,4 @@
+-- SPDX-License-Identifier: Apache-2.0
 use Rattle.shuf_machine.specs.Past.{state_of}
 use Rattle.shuf_machine.specs.Refusal.{migrate_no}
 use Rattle.hart_runner.specs.Standing.{pace_of}

@@ -1,3 +1,4 @@
+-- SPDX-License-Identifier: Apache-2.0
 use Rattle.std.proofs.Common.{ap, ◌∙◌}
 use Rattle.sh_types.specs.declared.layouts.Layout.{Layout}
 use Rattle.shuf_machine.specs.Past.{state_of}

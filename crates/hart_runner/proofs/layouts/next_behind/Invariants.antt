@@ -1,3 +1,4 @@
+-- SPDX-License-Identifier: Apache-2.0
 use Rattle.shuf_machine.specs.Past.{state_of}
 use Rattle.hart_runner.proofs.Linking.{NoneBelow}
 use Rattle.hart_runner.proofs.layouts.next_behind.Given as goal

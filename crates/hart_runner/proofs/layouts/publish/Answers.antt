@@ -1,3 +1,4 @@
+-- SPDX-License-Identifier: Apache-2.0
 use Rattle.std.proofs.Common.{◌+◌, sym, ap, ◌∙◌, subst, arith}
 use Rattle.sh_types.specs.declared.runs.Event.TheVariants.{Publish}
 use Rattle.shuf_machine.specs.Past.{Past, with_event, state_of}

@@ -1,3 +1,4 @@
+-- SPDX-License-Identifier: Apache-2.0
 use Rattle.std.proofs.Common.{◌≡◌, ◌-◌, true, [], ◌∷◌, ap, ◌∙◌}
 use Rattle.sh_types.specs.declared.runs.Event.TheVariants.{Erase}
 use Rattle.sh_machines.specs.Pace.{Pace}

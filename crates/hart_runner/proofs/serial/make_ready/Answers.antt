@@ -1,3 +1,4 @@
+-- SPDX-License-Identifier: Apache-2.0
 use Rattle.std.proofs.Common.{[], ap, ◌∙◌, arith}
 use Rattle.sh_machines.specs.Serial.{cleared_away}
 use Rattle.sh_machines.specs.Unmoved.{Unmoved, goes_still}

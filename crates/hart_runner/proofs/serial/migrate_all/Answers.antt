@@ -1,3 +1,4 @@
+-- SPDX-License-Identifier: Apache-2.0
 use Rattle.std.proofs.Common.{sym, ◌∙◌}
 use Rattle.hart_runner.proofs.Boundaries.{moving_on}
 use Rattle.hart_runner.proofs.serial.migrate_all.Goals as goal

@@ -1,3 +1,4 @@
+-- SPDX-License-Identifier: Apache-2.0
 use Rattle.std.proofs.Common.{length}
 use Rattle.sh_machines.specs.Serial.{migrations}
 use Rattle.hart_runner.specs.Standing.{pace_of}

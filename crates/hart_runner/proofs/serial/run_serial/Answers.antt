@@ -1,3 +1,4 @@
+-- SPDX-License-Identifier: Apache-2.0
 use Rattle.std.proofs.Common.{◌≡◌, ◌++◌, false, ap, ◌∙◌, arith}
 use Rattle.sh_machines.specs.Serial.{is_done, turn_limit}
 use Rattle.shuf_machine.specs.Past.{Past}

@@ -1,3 +1,4 @@
+-- SPDX-License-Identifier: Apache-2.0
 use Rattle.std.proofs.Common.{◌-◌}
 use Rattle.hart_runner.specs.Plans.{schedule_of}
 use Rattle.hart_runner.specs.Standing.{pace_of}

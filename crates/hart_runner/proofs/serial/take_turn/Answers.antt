@@ -1,3 +1,4 @@
+-- SPDX-License-Identifier: Apache-2.0
 use Rattle.std.proofs.Common.{ap, arith}
 use Rattle.sh_machines.specs.Pace.{Pace}
 use Rattle.sh_types.specs.declared.runs.Event.TheVariants.{Run}

@@ -1,3 +1,4 @@
+-- SPDX-License-Identifier: Apache-2.0
 use Rattle.std.proofs.Common.{◌+◌, ◌<◌, ◌^◌}
 use Rattle.sh_machines.specs.Serial.{turn}
 use Rattle.hart_runner.specs.Standing.{image_in, pace_of}

@@ -1,3 +1,4 @@
+-- SPDX-License-Identifier: Apache-2.0
 use Rattle.hart_turns.proofs.calls.act.Goals as goal
 
 pub returns-in-Starts-clause-meant : goal.returns-in-Starts-clause-meant

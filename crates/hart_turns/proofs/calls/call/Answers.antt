@@ -1,3 +1,4 @@
+-- SPDX-License-Identifier: Apache-2.0
 use Rattle.std.proofs.Common.{List, length, ap, subst, arith}
 use Rattle.sh_types.specs.declared.runs.Hart.{Hart}
 use Rattle.sh_machines.specs.Event.{with_harts}

@@ -1,3 +1,4 @@
+-- SPDX-License-Identifier: Apache-2.0
 use Rattle.std.proofs.Common.{◌≡◌, length, drop, ap, arith}
 use Rattle.hart_turns.proofs.calls.read.Goals as goal
 

@@ -1,3 +1,4 @@
+-- SPDX-License-Identifier: Apache-2.0
 use Rattle.std.proofs.Common.{◌≡◌, drop}
 use Rattle.sh_machines.specs.Shuffled.{any_live}
 use Rattle.hart_turns.proofs.finishing.any_live.Given as goal

@@ -1,3 +1,4 @@
+-- SPDX-License-Identifier: Apache-2.0
 use Rattle.std.proofs.Common.{◌≡◌, drop}
 use Rattle.hart_turns.specs.Next.{any_reserved}
 use Rattle.hart_turns.proofs.losing.any_reserved.Given as goal

@@ -1,3 +1,4 @@
+-- SPDX-License-Identifier: Apache-2.0
 use Rattle.hart_turns.specs.Meant.{meant, setting_of}
 use Rattle.hart_turns.proofs.Reservations.{went_on}
 use Rattle.hart_turns.proofs.stepping.advance_long.Goals as goal

@@ -1,3 +1,4 @@
+-- SPDX-License-Identifier: Apache-2.0
 use Rattle.std.proofs.Common.{arith}
 use Rattle.guest_mem.specs.Held.{words_of}
 use Rattle.hart_step.specs.Task.{tables_with}

@@ -1,3 +1,4 @@
+-- SPDX-License-Identifier: Apache-2.0
 use Rattle.hart_turns.specs.Meant.{meant}
 use Rattle.hart_turns.proofs.Reservations.{counted}
 use Rattle.hart_turns.proofs.stepping.count.Goals as goal

@@ -1,3 +1,4 @@
+-- SPDX-License-Identifier: Apache-2.0
 use Rattle.std.proofs.Common.{subst}
 use Rattle.sh_types.specs.Fetch.{Tells}
 use Rattle.hart_turns.specs.Meant.{meant}

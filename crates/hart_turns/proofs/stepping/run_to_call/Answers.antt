@@ -1,3 +1,4 @@
+-- SPDX-License-Identifier: Apache-2.0
 use Rattle.std.proofs.Common.{◌≡◌, ◌+◌, ◌∙◌, sym, ap, subst, arith, add-one}
 use Rattle.sh_machines.specs.Shuffled.{Shuffled}
 use Rattle.hart_turns.specs.Meant.{meant, IsMade, setting_of}

@@ -1,3 +1,4 @@
+-- SPDX-License-Identifier: Apache-2.0
 use Rattle.std.proofs.Common.{◌≡◌, ◌+◌, ◌-◌, ◌≤◌, false}
 use Rattle.hart_turns.specs.Meant.{meant, IsMapped, setting_of}
 use Rattle.hart_turns.specs.Next.{any_reserved}

@@ -1,3 +1,4 @@
+-- SPDX-License-Identifier: Apache-2.0
 use Rattle.std.proofs.Common.{length, refl, ◌∙◌, arith, add-one}
 use Rattle.guest_mem.specs.Held.{words_of, regions_of}
 use Rattle.hart_turns.proofs.Bytes.{fill_first, fill_next, fill_free_at, fill_write_at, write_read}

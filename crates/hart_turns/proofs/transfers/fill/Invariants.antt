@@ -1,3 +1,4 @@
+-- SPDX-License-Identifier: Apache-2.0
 use Rattle.std.proofs.Common.{◌≡◌, ◌+◌, take}
 use Rattle.sh_machines.specs.Shuffled.{fills}
 use Rattle.guest_mem.specs.Held.{words_of, regions_of}

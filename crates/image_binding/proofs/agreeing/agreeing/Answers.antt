@@ -1,3 +1,4 @@
+-- SPDX-License-Identifier: Apache-2.0
 use Rattle.std.proofs.Common.{◌∙◌, subst, sym}
 use Rattle.elf_rules.specs.Bindable.{mismatch_of}
 use Rattle.image_binding.specs.Order.{SegmentsApart}

@@ -1,3 +1,4 @@
+-- SPDX-License-Identifier: Apache-2.0
 use Rattle.std.proofs.Common.{◌≡◌, drop}
 use Rattle.elf_rules.specs.Bindable.{first_mismatch}
 use Rattle.image_binding.proofs.agreeing.all_agree.Given as goal

@@ -1,3 +1,4 @@
+-- SPDX-License-Identifier: Apache-2.0
 use Rattle.std.proofs.Common.{◌∙◌, sym, ap}
 use Rattle.elf_rules.specs.Elf.{number_at}
 use Rattle.image_binding.proofs.Numbers.{eight_inside, none_under, some_under, width_eight}

@@ -1,3 +1,4 @@
+-- SPDX-License-Identifier: Apache-2.0
 use Rattle.std.proofs.Common.{rules}
 use Rattle.image_binding.proofs.Refusing.{whole_refusal}
 use Rattle.image_binding.proofs.bindable.bindable.Goals as goal

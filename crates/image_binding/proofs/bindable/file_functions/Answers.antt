@@ -1,3 +1,4 @@
+-- SPDX-License-Identifier: Apache-2.0
 use Rattle.image_binding.proofs.Refusing.{as_file}
 use Rattle.image_binding.proofs.bindable.file_functions.Goals as goal
 

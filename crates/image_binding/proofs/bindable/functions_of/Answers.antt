@@ -1,3 +1,4 @@
+-- SPDX-License-Identifier: Apache-2.0
 use Rattle.std.proofs.Common.{◌∙◌}
 use Rattle.image_binding.proofs.Mapped.{mapped_fits}
 use Rattle.image_binding.proofs.bindable.functions_of.Goals as goal

@@ -1,3 +1,4 @@
+-- SPDX-License-Identifier: Apache-2.0
 use Rattle.std.proofs.Common.{arith}
 use Rattle.image_binding.specs.Binds.{source}
 use Rattle.image_binding.proofs.Classing.{one_more_function}

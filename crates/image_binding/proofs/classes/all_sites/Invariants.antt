@@ -1,3 +1,4 @@
+-- SPDX-License-Identifier: Apache-2.0
 use Rattle.std.proofs.Common.{◌≡◌, ◌++◌, drop}
 use Rattle.image_rules.specs.Bound.{sites_from}
 use Rattle.image_binding.specs.Binds.{source}

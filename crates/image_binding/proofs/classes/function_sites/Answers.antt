@@ -1,3 +1,4 @@
+-- SPDX-License-Identifier: Apache-2.0
 use Rattle.image_binding.proofs.Classing.{function_classes}
 use Rattle.image_binding.proofs.classes.function_sites.Goals as goal
 

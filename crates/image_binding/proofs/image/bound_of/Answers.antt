@@ -1,3 +1,4 @@
+-- SPDX-License-Identifier: Apache-2.0
 use Rattle.std.proofs.Common.{◌∙◌}
 use Rattle.image_binding.proofs.Bounds.{as_apart}
 use Rattle.image_binding.proofs.Ordered.{as_codes, codes_are}

@@ -1,3 +1,4 @@
+-- SPDX-License-Identifier: Apache-2.0
 use Rattle.image_binding.proofs.Bounds.{as_apart, few_labels}
 use Rattle.image_binding.proofs.image.file_binding.Goals as goal
 

@@ -1,3 +1,4 @@
+-- SPDX-License-Identifier: Apache-2.0
 use Rattle.std.proofs.Common.{◌∙◌}
 use Rattle.image_binding.proofs.Ordered.{codes_low, filled_is, filled_placed}
 use Rattle.image_binding.proofs.Sorted.{regions_are}

@@ -1,3 +1,4 @@
+-- SPDX-License-Identifier: Apache-2.0
 use Rattle.image_binding.proofs.Bounds.{as_low, coded_functions, have_bound_words}
 use Rattle.image_binding.proofs.Whole.{sites_are}
 use Rattle.image_binding.proofs.image.file_sites.Goals as goal

@@ -1,3 +1,4 @@
+-- SPDX-License-Identifier: Apache-2.0
 use Rattle.image_binding.proofs.Bounds.{end_in_image}
 use Rattle.image_binding.proofs.image.file_words.Goals as goal
 

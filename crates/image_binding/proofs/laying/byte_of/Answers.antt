@@ -1,3 +1,4 @@
+-- SPDX-License-Identifier: Apache-2.0
 use Rattle.std.proofs.Common.{ap}
 use Rattle.std.specs.Prelude.{◌/◌, ◌%◌}
 use Rattle.image_binding.proofs.Shifts.{bits_of_bytes}

@@ -1,3 +1,4 @@
+-- SPDX-License-Identifier: Apache-2.0
 use Rattle.image_binding.proofs.Laid.{all_laid}
 use Rattle.image_binding.proofs.laying.lay.Goals as goal
 

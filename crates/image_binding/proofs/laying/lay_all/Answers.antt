@@ -1,3 +1,4 @@
+-- SPDX-License-Identifier: Apache-2.0
 use Rattle.std.proofs.Common.{arith}
 use Rattle.image_binding.specs.Binds.{no_token}
 use Rattle.image_binding.proofs.Laid.{end_laid, next_laid, start_laid}

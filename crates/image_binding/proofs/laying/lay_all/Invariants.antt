@@ -1,3 +1,4 @@
+-- SPDX-License-Identifier: Apache-2.0
 use Rattle.std.proofs.Common.{◌-◌, drop, length}
 use Rattle.image_binding.specs.Binds.{IsLaid}
 use Rattle.image_binding.proofs.laying.lay_all.Given as goal

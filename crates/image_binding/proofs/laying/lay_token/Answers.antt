@@ -1,3 +1,4 @@
+-- SPDX-License-Identifier: Apache-2.0
 use Rattle.std.proofs.Common.{arith}
 use Rattle.image_binding.proofs.Laid.{up_to_end, up_to_first, up_to_next}
 use Rattle.image_binding.proofs.laying.lay_token.Goals as goal

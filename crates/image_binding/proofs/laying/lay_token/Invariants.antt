@@ -1,3 +1,4 @@
+-- SPDX-License-Identifier: Apache-2.0
 use Rattle.image_binding.proofs.Laid.{IsUpTo}
 use Rattle.image_binding.proofs.laying.lay_token.Given as goal
 

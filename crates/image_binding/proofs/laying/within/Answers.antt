@@ -1,3 +1,4 @@
+-- SPDX-License-Identifier: Apache-2.0
 use Rattle.image_binding.specs.Binds.{no_token}
 use Rattle.image_binding.proofs.Laid.{in_order, inside_is, inside_narrow}
 use Rattle.image_binding.proofs.laying.within.Goals as goal

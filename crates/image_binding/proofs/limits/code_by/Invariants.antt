@@ -1,3 +1,4 @@
+-- SPDX-License-Identifier: Apache-2.0
 use Rattle.std.proofs.Common.{◌≡◌, ◌+◌, ◌*◌, ◌^◌, ◌≤◌, drop}
 use Rattle.elf_rules.specs.Bindable.{code_by}
 use Rattle.image_binding.proofs.limits.code_by.Given as goal

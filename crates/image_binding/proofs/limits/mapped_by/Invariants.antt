@@ -1,3 +1,4 @@
+-- SPDX-License-Identifier: Apache-2.0
 use Rattle.std.proofs.Common.{◌≡◌, ◌+◌, drop}
 use Rattle.elf_rules.specs.Bindable.{mapped_by}
 use Rattle.image_binding.proofs.limits.mapped_by.Given as goal

@@ -1,3 +1,4 @@
+-- SPDX-License-Identifier: Apache-2.0
 use Rattle.std.proofs.Common.{◌∙◌}
 use Rattle.image_binding.proofs.Accepting.{memory_fits, no_rule_fails}
 use Rattle.image_binding.proofs.memory.mapped_bytes.Goals as goal

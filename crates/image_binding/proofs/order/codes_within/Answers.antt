@@ -1,3 +1,4 @@
+-- SPDX-License-Identifier: Apache-2.0
 use Rattle.std.proofs.Common.{arith}
 use Rattle.image_binding.proofs.Finding.{from_start, in_order, within_is}
 use Rattle.image_binding.proofs.order.codes_within.Goals as goal

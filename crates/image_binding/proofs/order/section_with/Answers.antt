@@ -1,3 +1,4 @@
+-- SPDX-License-Identifier: Apache-2.0
 use Rattle.std.proofs.Common.{◌-◌, arith, refl, sym}
 use Rattle.elf_rules.specs.declared.elf.Head.{Head}
 use Rattle.elf_rules.specs.Elf.{no_head}

@@ -1,3 +1,4 @@
+-- SPDX-License-Identifier: Apache-2.0
 use Rattle.std.proofs.lemmas.List.Elements.{All-filter}
 use Rattle.image_binding.specs.Order.{EndsLow}
 use Rattle.image_binding.proofs.regions.data_regions.Goals as goal

@@ -1,3 +1,4 @@
+-- SPDX-License-Identifier: Apache-2.0
 use Rattle.image_binding.proofs.Stack.{stack_is}
 use Rattle.image_binding.proofs.regions.stack.Goals as goal
 

@@ -1,3 +1,4 @@
+-- SPDX-License-Identifier: Apache-2.0
 use Rattle.std.proofs.Common.{◌∙◌}
 use Rattle.image_binding.proofs.Places.{low_words}
 use Rattle.image_binding.proofs.words.bound_words.Goals as goal

@@ -1,3 +1,4 @@
+-- SPDX-License-Identifier: Apache-2.0
 use Rattle.std.proofs.Common.{◌≡◌, ◌+◌, ◌*◌, ◌++◌, drop}
 use Rattle.image_rules.specs.Bound.{words_by}
 use Rattle.image_binding.proofs.words.words_by.Given as goal

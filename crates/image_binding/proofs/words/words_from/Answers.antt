@@ -1,3 +1,4 @@
+-- SPDX-License-Identifier: Apache-2.0
 use Rattle.elf_rules.specs.Elf.{number_at}
 use Rattle.image_binding.proofs.Places.{read_more, fits_more}
 use Rattle.image_binding.proofs.words.words_from.Goals as goal

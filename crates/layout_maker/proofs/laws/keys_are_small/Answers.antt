@@ -1,3 +1,4 @@
+-- SPDX-License-Identifier: Apache-2.0
 use Rattle.layout_maker.proofs.Keying.{keys_small}
 use Rattle.layout_maker.proofs.laws.keys_are_small.Goals as goal
 

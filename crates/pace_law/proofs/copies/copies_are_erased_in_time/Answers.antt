@@ -1,3 +1,4 @@
+-- SPDX-License-Identifier: Apache-2.0
 use Rattle.pace_law.proofs.OnTime.{wiped_before, published_at}
 use Rattle.pace_law.proofs.copies.copies_are_erased_in_time.Goals as goal
 

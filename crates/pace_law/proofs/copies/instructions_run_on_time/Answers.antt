@@ -1,3 +1,4 @@
+-- SPDX-License-Identifier: Apache-2.0
 use Rattle.pace_law.proofs.OnTime.{on_time}
 use Rattle.pace_law.proofs.copies.instructions_run_on_time.Goals as goal
 

@@ -1,3 +1,4 @@
+-- SPDX-License-Identifier: Apache-2.0
 use Rattle.pace_law.proofs.Journals.{steps_keep}
 use Rattle.pace_law.proofs.lists.counts_are_in_step.Goals as goal
 

@@ -1,3 +1,4 @@
+-- SPDX-License-Identifier: Apache-2.0
 use Rattle.pace_law.proofs.Journals.{list_legal}
 use Rattle.pace_law.proofs.lists.serial_lists_are_legal.Goals as goal
 

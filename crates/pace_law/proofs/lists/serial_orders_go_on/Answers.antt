@@ -1,3 +1,4 @@
+-- SPDX-License-Identifier: Apache-2.0
 use Rattle.pace_law.proofs.Journals.{on_legal, on_paced, on_few, on_done}
 use Rattle.pace_law.proofs.lists.serial_orders_go_on.Goals as goal
 

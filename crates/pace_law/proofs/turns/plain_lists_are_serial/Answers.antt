@@ -1,3 +1,4 @@
+-- SPDX-License-Identifier: Apache-2.0
 use Rattle.sh_machines.specs.Unmoved.{unmoved_start}
 use Rattle.pace_law.proofs.Plain.{plain_is, short_within}
 use Rattle.pace_law.proofs.turns.plain_lists_are_serial.Goals as goal

@@ -1,3 +1,4 @@
+-- SPDX-License-Identifier: Apache-2.0
 use Rattle.period_report.proofs.Counting.{kept_next}
 use Rattle.period_report.proofs.cells.publication.Goals as goal
 

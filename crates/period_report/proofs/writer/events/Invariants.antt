@@ -1,3 +1,4 @@
+-- SPDX-License-Identifier: Apache-2.0
 use Rattle.std.proofs.Common.{◌≡◌, ◌++◌, drop, string_bytes}
 use Rattle.period_report.specs.Kept.{IsKept}
 use Rattle.period_report.specs.Numbered.{IsNumbered}

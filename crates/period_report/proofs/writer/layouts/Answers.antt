@@ -1,3 +1,4 @@
+-- SPDX-License-Identifier: Apache-2.0
 use Rattle.std.proofs.Common.{sym, subst}
 use Rattle.period_report.specs.Numbered.{IsNumbered}
 use Rattle.period_report.proofs.Numbering.{journal_numbered}

@@ -1,3 +1,4 @@
+-- SPDX-License-Identifier: Apache-2.0
 use Rattle.std.proofs.Common.{arith, subst, sym}
 use Rattle.plain_memory.specs.Laid.{Laid}
 use Rattle.plain_memory.proofs.Places.{all_laid}

@@ -1,3 +1,4 @@
+-- SPDX-License-Identifier: Apache-2.0
 use Rattle.std.proofs.Common.{arith}
 use Rattle.plain_memory.proofs.Little.{there_put}
 use Rattle.plain_memory.proofs.numbers.write_two.Goals as goal

@@ -1,3 +1,4 @@
+-- SPDX-License-Identifier: Apache-2.0
 use Rattle.std.proofs.Common.{◌≡◌, ◌++◌, drop}
 use Rattle.ptr_table.specs.Taken.{taken_in}
 use Rattle.ptr_table.proofs.addresses.all_taken.Given as goal

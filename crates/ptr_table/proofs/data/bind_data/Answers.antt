@@ -1,3 +1,4 @@
+-- SPDX-License-Identifier: Apache-2.0
 use Rattle.ptr_table.proofs.data.bind_data.Goals as goal
 
 pub label_at-requires-clause-rise : goal.label_at-requires-clause-rise

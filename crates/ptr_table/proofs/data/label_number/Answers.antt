@@ -1,3 +1,4 @@
+-- SPDX-License-Identifier: Apache-2.0
 use Rattle.std.proofs.Common.{◌≢◌, ◌<◌, ◌∙◌, get_or, length, sym, arith}
 use Rattle.sh_types.specs.Place.{pair}
 use Rattle.image_rules.specs.Binding.{label_home}

@@ -1,3 +1,4 @@
+-- SPDX-License-Identifier: Apache-2.0
 use Rattle.std.proofs.Common.{◌≡◌, drop}
 use Rattle.sh_machines.specs.Class.{record_on}
 use Rattle.ptr_table.proofs.literals.record_on.Given as goal

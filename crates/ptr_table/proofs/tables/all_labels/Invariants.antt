@@ -1,3 +1,4 @@
+-- SPDX-License-Identifier: Apache-2.0
 use Rattle.std.proofs.Common.{◌≡◌, ◌++◌, drop}
 use Rattle.ptr_table.specs.Taken.{labels_by}
 use Rattle.ptr_table.proofs.tables.all_labels.Given as goal

@@ -1,3 +1,4 @@
+-- SPDX-License-Identifier: Apache-2.0
 use Rattle.std.proofs.Common.{◌≡◌, rules}
 use Rattle.image_rules.specs.Binding.{labels_of}
 use Rattle.ptr_table.proofs.Order.{rising_homes}

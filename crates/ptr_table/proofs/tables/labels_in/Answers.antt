@@ -1,3 +1,4 @@
+-- SPDX-License-Identifier: Apache-2.0
 use Rattle.std.proofs.Common.{◌∙◌, ◌/◌, sym, arith}
 use Rattle.ptr_table.specs.Taken.{has_offset}
 use Rattle.ptr_table.proofs.Tabling.{kept_more, dropped_more}

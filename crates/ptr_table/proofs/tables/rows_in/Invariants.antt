@@ -1,3 +1,4 @@
+-- SPDX-License-Identifier: Apache-2.0
 use Rattle.std.proofs.Common.{◌≡◌, ◌++◌, drop}
 use Rattle.ptr_table.specs.Taken.{rows_by}
 use Rattle.ptr_table.proofs.tables.rows_in.Given as goal

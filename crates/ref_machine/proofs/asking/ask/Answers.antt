@@ -1,3 +1,4 @@
+-- SPDX-License-Identifier: Apache-2.0
 use Rattle.std.proofs.Common.{ℕ, List, ◌++◌, ◌∷◌, [], refl, ap, ◌∙◌, length, drop}
 use Rattle.std.specs.Prelude.{slice_index}
 use Rattle.sh_types.specs.declared.code.Image.{Image}

@@ -1,3 +1,4 @@
+-- SPDX-License-Identifier: Apache-2.0
 use Rattle.ref_machine.proofs.calls.act.Goals as goal
 
 pub returns-in-Value-clause-state : goal.returns-in-Value-clause-state

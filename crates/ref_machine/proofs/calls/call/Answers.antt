@@ -1,3 +1,4 @@
+-- SPDX-License-Identifier: Apache-2.0
 use Rattle.thread_acts.specs.Done.{meant}
 use Rattle.ref_machine.specs.Meant.{state_of}
 use Rattle.ref_machine.proofs.Calling.{called, call_low, can_do}

@@ -1,3 +1,4 @@
+-- SPDX-License-Identifier: Apache-2.0
 use Rattle.std.proofs.Common.{◌≡◌, List, ℕ, length, drop, ap, ◌∙◌, arith}
 use Rattle.ref_machine.proofs.Replies.{read_is}
 use Rattle.ref_machine.proofs.calls.read.Goals as goal

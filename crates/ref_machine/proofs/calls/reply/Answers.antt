@@ -1,3 +1,4 @@
+-- SPDX-License-Identifier: Apache-2.0
 use Rattle.ref_machine.proofs.Replies.{replied}
 use Rattle.ref_machine.proofs.calls.reply.Goals as goal
 

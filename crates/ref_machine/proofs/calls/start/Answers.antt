@@ -1,3 +1,4 @@
+-- SPDX-License-Identifier: Apache-2.0
 use Rattle.std.proofs.Common.{◌∙◌}
 use Rattle.ref_machine.proofs.Replies.{started}
 use Rattle.ref_machine.proofs.calls.start.Goals as goal

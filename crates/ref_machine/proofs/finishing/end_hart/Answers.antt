@@ -1,3 +1,4 @@
+-- SPDX-License-Identifier: Apache-2.0
 use Rattle.std.proofs.Common.{Some, ap, sym, ◌∙◌}
 use Rattle.sh_types.specs.declared.runs.End.TheVariants as end
 use Rattle.sh_machines.specs.Unmoved.{any_alive, first_answer}

@@ -1,3 +1,4 @@
+-- SPDX-License-Identifier: Apache-2.0
 use Rattle.sh_machines.specs.Need.{Leaks}
 use Rattle.ref_machine.proofs.Ending.{stopped_by}
 use Rattle.ref_machine.proofs.finishing.leak.Goals as goal

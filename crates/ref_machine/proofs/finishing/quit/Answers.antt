@@ -1,3 +1,4 @@
+-- SPDX-License-Identifier: Apache-2.0
 use Rattle.std.proofs.Common.{ap, ◌∙◌}
 use Rattle.sh_machines.specs.Need.{Quits}
 use Rattle.sh_machines.specs.Unmoved.{thread_ends}

@@ -1,3 +1,4 @@
+-- SPDX-License-Identifier: Apache-2.0
 use Rattle.std.proofs.Common.{◌∙◌, Some, None, Ok, Err, ap, arith}
 use Rattle.ref_machine.specs.Losing.{any_reserved}
 use Rattle.ref_machine.specs.Meant.{threads_of}

@@ -1,3 +1,4 @@
+-- SPDX-License-Identifier: Apache-2.0
 use Rattle.std.proofs.Common.{◌≡◌, ◌+◌, ◌∙◌, None, refl, sym, subst, arith}
 use Rattle.sh_machines.specs.Unmoved.{Content, Thread, Unmoved}
 use Rattle.thread_acts.specs.Done.{meant}

@@ -1,3 +1,4 @@
+-- SPDX-License-Identifier: Apache-2.0
 use Rattle.std.proofs.Common.{◌≡◌, ℕ, ◌-◌, ◌≤◌}
 use Rattle.sh_machines.specs.Unmoved.{Unmoved}
 use Rattle.thread_acts.specs.Done.{meant}

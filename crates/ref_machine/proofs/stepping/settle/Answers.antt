@@ -1,3 +1,4 @@
+-- SPDX-License-Identifier: Apache-2.0
 use Rattle.ref_machine.proofs.stepping.settle.Goals as goal
 
 pub returns-in-Went-clause-state : goal.returns-in-Went-clause-state

@@ -1,3 +1,4 @@
+-- SPDX-License-Identifier: Apache-2.0
 use Rattle.std.proofs.Common.{◌≡◌, ℕ}
 use Rattle.ref_machine.proofs.Order.{least_from}
 use Rattle.ref_machine.proofs.turns.live_from.Given as goal

@@ -1,3 +1,4 @@
+-- SPDX-License-Identifier: Apache-2.0
 use Rattle.std.proofs.Common.{◌∙◌, sym}
 use Rattle.sh_machines.specs.Pace.{live_from}
 use Rattle.sh_machines.specs.Serial.{first_or}

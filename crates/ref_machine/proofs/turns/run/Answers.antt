@@ -1,3 +1,4 @@
+-- SPDX-License-Identifier: Apache-2.0
 use Rattle.std.proofs.Common.{◌≡◌, ◌+◌, ◌-◌, ◌∙◌, length, min, refl, sym, ap, arith}
 use Rattle.sh_machines.specs.Pace.{live_from}
 use Rattle.sh_machines.specs.Serial.{first_or, next_from}

@@ -1,3 +1,4 @@
+-- SPDX-License-Identifier: Apache-2.0
 use Rattle.std.proofs.Common.{◌∙◌, sym}
 use Rattle.ref_machine.specs.Meant.{state_of}
 use Rattle.ref_machine.proofs.Places.{on_err}

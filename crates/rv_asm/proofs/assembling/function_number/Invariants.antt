@@ -1,3 +1,4 @@
+-- SPDX-License-Identifier: Apache-2.0
 use Rattle.std.proofs.Common.{◌≡◌, ◌+◌, drop}
 use Rattle.rv_asm.specs.Object.{function_number}
 use Rattle.rv_asm.proofs.assembling.function_number.Given as goal

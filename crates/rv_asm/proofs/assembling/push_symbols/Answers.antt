@@ -1,3 +1,4 @@
+-- SPDX-License-Identifier: Apache-2.0
 use Rattle.std.proofs.Common.{◌++◌}
 use Rattle.std.specs.Prelude.{map}
 use Rattle.asm_places.specs.Symbols.{symbol_of}

@@ -1,3 +1,4 @@
+-- SPDX-License-Identifier: Apache-2.0
 use Rattle.std.specs.Prelude.{map}
 use Rattle.asm_places.proofs.Counting.{map_goes_on, map_done}
 use Rattle.rv_asm.specs.Object.{words_in}

@@ -1,3 +1,4 @@
+-- SPDX-License-Identifier: Apache-2.0
 use Rattle.std.proofs.Common.{◌≡◌, drop}
 use Rattle.rv_asm.specs.Passes.{entry_of}
 use Rattle.rv_asm.proofs.checking.entry_name.Given as goal

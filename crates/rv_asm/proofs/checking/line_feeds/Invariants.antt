@@ -1,3 +1,4 @@
+-- SPDX-License-Identifier: Apache-2.0
 use Rattle.std.proofs.Common.{◌≡◌, ◌≤◌, ℕ, take}
 use Rattle.std.specs.Prelude.{◌==◌, count_by}
 use Rattle.rv_asm.proofs.checking.line_feeds.Given as goal

@@ -1,3 +1,4 @@
+-- SPDX-License-Identifier: Apache-2.0
 use Rattle.std.proofs.Common.{◌≡◌, false, sym, subst}
 use Rattle.asm_places.specs.declared.places.Place.{Place}
 use Rattle.asm_places.specs.Places.{first_place}

@@ -1,3 +1,4 @@
+-- SPDX-License-Identifier: Apache-2.0
 use Rattle.asm_places.specs.Maps.{has_at}
 use Rattle.rv_asm.proofs.Reaching.{checked_fit}
 use Rattle.rv_asm.proofs.data.text_of.Goals as goal

@@ -1,3 +1,4 @@
+-- SPDX-License-Identifier: Apache-2.0
 use Rattle.rv_asm.proofs.MarksName.{marks_name}
 use Rattle.rv_asm.proofs.Numbering.{marks_named}
 use Rattle.rv_asm.proofs.laws.marks_name_symbols.Goals as goal

@@ -1,3 +1,4 @@
+-- SPDX-License-Identifier: Apache-2.0
 use Rattle.rv_asm.proofs.Gathering.{whole}
 use Rattle.rv_asm.proofs.laws.objects_are_whole.Goals as goal
 

@@ -1,3 +1,4 @@
+-- SPDX-License-Identifier: Apache-2.0
 use Rattle.sh_law.proofs.Noting.{turn_notes}
 use Rattle.sh_law.proofs.notes.notes_are_taken_once.Goals as goal
 

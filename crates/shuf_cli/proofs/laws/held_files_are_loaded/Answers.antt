@@ -1,3 +1,4 @@
+-- SPDX-License-Identifier: Apache-2.0
 use Rattle.shuf_cli.proofs.Readable.{given}
 use Rattle.shuf_cli.proofs.laws.held_files_are_loaded.Goals as goal
 

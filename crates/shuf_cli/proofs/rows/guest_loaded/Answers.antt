@@ -1,3 +1,4 @@
+-- SPDX-License-Identifier: Apache-2.0
 use Rattle.std.proofs.Common.{refl, subst}
 use Rattle.image_rules.specs.Framed.{refusal_of}
 use Rattle.cli_rows.specs.declared.judging.Judged.TheVariants.{Refused}

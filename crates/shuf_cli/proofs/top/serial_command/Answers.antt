@@ -1,3 +1,4 @@
+-- SPDX-License-Identifier: Apache-2.0
 use Rattle.std.proofs.Common.{ℕ, List, ap, arith}
 use Rattle.std.specs.Prelude.{Option}
 use Rattle.shuf_cli.specs.Answer.{SinkState}

@@ -1,3 +1,4 @@
+-- SPDX-License-Identifier: Apache-2.0
 use Rattle.std.proofs.Common.{sym, ◌∙◌}
 use Rattle.thread_step.proofs.Acting.{leak_alone, pass_alone}
 use Rattle.thread_step.proofs.control.untaken.Goals as goal

@@ -1,3 +1,4 @@
+-- SPDX-License-Identifier: Apache-2.0
 use Rattle.thread_step.proofs.Lookups.{nothing_stands, stands}
 use Rattle.thread_step.proofs.listing.listed.Goals as goal
 

@@ -1,3 +1,4 @@
+-- SPDX-License-Identifier: Apache-2.0
 use Rattle.thread_step.specs.Listed.{AreListed}
 use Rattle.thread_step.proofs.listing.listed_tasks.Given as goal
 

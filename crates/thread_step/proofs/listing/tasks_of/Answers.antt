@@ -1,3 +1,4 @@
+-- SPDX-License-Identifier: Apache-2.0
 use Rattle.std.proofs.Common.{◌≡◌, ◌/◌, arith, subst}
 use Rattle.std.specs.Prelude.{slice_index}
 use Rattle.sh_types.specs.Image.{sizes_of}

@@ -1,3 +1,4 @@
+-- SPDX-License-Identifier: Apache-2.0
 use Rattle.thread_step.specs.Listed.{AreTasks}
 use Rattle.thread_step.proofs.listing.tasks_of.Given as goal
 

@@ -1,3 +1,4 @@
+-- SPDX-License-Identifier: Apache-2.0
 use Rattle.std.proofs.Common.{◌≡◌, arith, length, subst, sym}
 use Rattle.sh_types.specs.Image.{sizes_of}
 use Rattle.thread_step.specs.Numbered.{AreNumbered}

@@ -1,3 +1,4 @@
+-- SPDX-License-Identifier: Apache-2.0
 use Rattle.std.proofs.Common.{◌≡◌}
 use Rattle.sh_machines.specs.Copy.{literal_number}
 use Rattle.thread_step.specs.Numbered.{AreNumbers}

@@ -1,3 +1,4 @@
+-- SPDX-License-Identifier: Apache-2.0
 use Rattle.thread_step.proofs.Acting.{alone_task}
 use Rattle.thread_step.proofs.Staying.{on_false, on_true, task_stops}
 use Rattle.thread_step.proofs.quick.quick.Goals as goal

@@ -1,3 +1,4 @@
+-- SPDX-License-Identifier: Apache-2.0
 use Rattle.thread_step.proofs.Lookups.{size_got, size_past}
 use Rattle.thread_step.proofs.reading.size.Goals as goal
 

@@ -1,3 +1,4 @@
+-- SPDX-License-Identifier: Apache-2.0
 use Rattle.std.proofs.Common.{sym}
 use Rattle.thread_step.proofs.Grouping.{breaks_kind, stops_kind}
 use Rattle.thread_step.proofs.sites.stop.Goals as goal

@@ -1,3 +1,4 @@
+-- SPDX-License-Identifier: Apache-2.0
 use Rattle.std.proofs.Common.{sym, ◌∙◌}
 use Rattle.thread_step.proofs.Classes.{class_kind, nothing_inside}
 use Rattle.thread_step.proofs.sites.task_at.Goals as goal

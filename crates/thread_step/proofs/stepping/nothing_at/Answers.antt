@@ -1,3 +1,4 @@
+-- SPDX-License-Identifier: Apache-2.0
 use Rattle.std.proofs.Common.{sym, ◌∙◌}
 use Rattle.thread_step.proofs.Acting.{illegal_alone, past_alone}
 use Rattle.thread_step.proofs.Classes.{nothing_kind, past_kind}

@@ -1,3 +1,4 @@
+-- SPDX-License-Identifier: Apache-2.0
 use Rattle.std.proofs.Common.{sym}
 use Rattle.thread_step.proofs.Acting.{ok_as}
 use Rattle.thread_step.proofs.stepping.step.Goals as goal

@@ -1,3 +1,4 @@
+-- SPDX-License-Identifier: Apache-2.0
 use Rattle.std.proofs.Common.{◌∙◌, sym, refl}
 use Rattle.plain_memory.proofs.Places.{first_at, first_none, found_at, placed_at}
 use Rattle.plain_memory.proofs.Words.{byte_loaded}

@@ -1,3 +1,4 @@
+-- SPDX-License-Identifier: Apache-2.0
 use Rattle.std.proofs.Common.{◌∙◌, ◌≡◌, ◌-◌, ◌≤◌, ap, sym, arith}
 use Rattle.sh_machines.specs.Memory.{each_from}
 use Rattle.plain_memory.proofs.Stretches.{test_of, allows_is, each_true, each_false, covers_next}

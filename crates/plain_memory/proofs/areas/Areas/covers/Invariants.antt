@@ -1,3 +1,4 @@
+-- SPDX-License-Identifier: Apache-2.0
 use Rattle.std.proofs.Common.{◌≡◌, ◌+◌, ◌<◌}
 use Rattle.sh_machines.specs.Memory.{each_from}
 use Rattle.plain_memory.proofs.Stretches.{test_of}

@@ -1,3 +1,4 @@
+-- SPDX-License-Identifier: Apache-2.0
 use Rattle.std.proofs.Common.{length, arith}
 use Rattle.plain_memory.proofs.Stretches.{written_in}
 use Rattle.plain_memory.proofs.Words.{fills_is}

@@ -1,3 +1,4 @@
+-- SPDX-License-Identifier: Apache-2.0
 use Rattle.std.proofs.Common.{◌≢◌, ◌∙◌, ◌+◌, ◌<◌, ◌≤◌, ap, below_more, get_or-set_other, get_or-set_same, length, length-set, arith}
 use Rattle.sh_machines.specs.Memory.{first_byte}
 use Rattle.plain_memory.proofs.Words.{width_most}

@@ -1,3 +1,4 @@
+-- SPDX-License-Identifier: Apache-2.0
 use Rattle.plain_memory.proofs.Words.{loaded_is}
 use Rattle.plain_memory.proofs.areas.Areas.load_far.Goals as goal
 

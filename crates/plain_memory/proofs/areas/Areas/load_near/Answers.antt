@@ -1,3 +1,4 @@
+-- SPDX-License-Identifier: Apache-2.0
 use Rattle.std.proofs.Common.{◌∙◌, ◌<◌, sym, refl, length, arith}
 use Rattle.plain_memory.proofs.Places.{number_in, placed_at}
 use Rattle.plain_memory.proofs.Stretches.{near_allows}

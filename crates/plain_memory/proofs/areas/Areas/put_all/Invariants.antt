@@ -1,3 +1,4 @@
+-- SPDX-License-Identifier: Apache-2.0
 use Rattle.std.proofs.Common.{◌≡◌, ◌+◌}
 use Rattle.plain_memory.specs.Changed.{PutsBytes}
 use Rattle.plain_memory.proofs.areas.Areas.put_all.Given as goal

@@ -1,3 +1,4 @@
+-- SPDX-License-Identifier: Apache-2.0
 use Rattle.std.proofs.Common.{◌≡◌, ◌*◌, ◌%◌, ◌^◌, arith}
 use Rattle.plain_memory.proofs.Places.{found_at, from_start, to_end, placed_at, set_laid, set_puts, in_low}
 use Rattle.plain_memory.proofs.areas.Areas.put_byte.Goals as goal

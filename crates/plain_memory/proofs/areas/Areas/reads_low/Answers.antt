@@ -1,3 +1,4 @@
+-- SPDX-License-Identifier: Apache-2.0
 use Rattle.plain_memory.proofs.Stretches.{reads_low}
 use Rattle.plain_memory.proofs.areas.Areas.reads_low.Goals as goal
 

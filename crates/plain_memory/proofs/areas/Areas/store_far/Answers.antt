@@ -1,3 +1,4 @@
+-- SPDX-License-Identifier: Apache-2.0
 use Rattle.std.proofs.Common.{◌≡◌, ◌≤◌, ℕ, length, take, length-take-le, get_or-take, arith}
 use Rattle.plain_memory.proofs.Stretches.{written_in}
 use Rattle.plain_memory.proofs.Words.{width_most, bytes_number_put, stores_is}

@@ -1,3 +1,4 @@
+-- SPDX-License-Identifier: Apache-2.0
 use Rattle.std.proofs.Common.{◌≤◌, ◌+◌, ◌<◌, subst, refl, length, arith}
 use Rattle.sh_types.specs.declared.code.Region.{Region}
 use Rattle.plain_memory.proofs.Places.{placed_at, other_read, set_laid, set_puts}

@@ -1,3 +1,4 @@
+-- SPDX-License-Identifier: Apache-2.0
 use Rattle.std.proofs.Common.{refl}
 use Rattle.plain_memory.proofs.Places.{rest_none, rest_each, rest_low, none_usable}
 use Rattle.plain_memory.proofs.areas.Areas.usable_from.Goals as goal

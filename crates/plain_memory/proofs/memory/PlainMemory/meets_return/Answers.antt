@@ -1,3 +1,4 @@
+-- SPDX-License-Identifier: Apache-2.0
 use Rattle.std.proofs.Common.{refl}
 use Rattle.plain_memory.proofs.Accesses.{plain}
 use Rattle.plain_memory.proofs.Spans.{range_some, range_free, range_empty}

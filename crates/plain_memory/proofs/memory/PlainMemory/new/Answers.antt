@@ -1,3 +1,4 @@
+-- SPDX-License-Identifier: Apache-2.0
 use Rattle.std.proofs.Common.{◌∙◌, ap, List}
 use Rattle.sh_types.specs.declared.code.Region.{Region}
 use Rattle.sh_machines.specs.Memory.{readable, writable}

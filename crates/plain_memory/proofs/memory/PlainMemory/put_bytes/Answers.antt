@@ -1,3 +1,4 @@
+-- SPDX-License-Identifier: Apache-2.0
 use Rattle.plain_memory.proofs.Spans.{contents_filled, plain_filled}
 use Rattle.plain_memory.proofs.memory.PlainMemory.put_bytes.Goals as goal
 

@@ -1,3 +1,4 @@
+-- SPDX-License-Identifier: Apache-2.0
 use Rattle.std.proofs.Common.{◌/◌, true}
 use Rattle.sh_machines.specs.Memory.{first_word}
 use Rattle.plain_memory.specs.Laid.{allows}

@@ -1,3 +1,4 @@
+-- SPDX-License-Identifier: Apache-2.0
 use Rattle.ref_machine.proofs.Opening.{plain_opens, opens_so}
 use Rattle.ref_machine.proofs.plain.Plain.new.Goals as goal
 

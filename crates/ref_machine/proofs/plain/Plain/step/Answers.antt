@@ -1,3 +1,4 @@
+-- SPDX-License-Identifier: Apache-2.0
 use Rattle.ref_machine.proofs.Opening.{step_keeps}
 use Rattle.ref_machine.proofs.plain.Plain.step.Goals as goal
 

@@ -1,3 +1,4 @@
+-- SPDX-License-Identifier: Apache-2.0
 use Rattle.std.proofs.Common.{◌∙◌, ap}
 use Rattle.sh_base.proofs.Causes.{failed_cause}
 use Rattle.sh_base.proofs.mem_files.MemFilesFiles.store.Goals as goal

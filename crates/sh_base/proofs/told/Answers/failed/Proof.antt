@@ -1,3 +1,4 @@
+-- SPDX-License-Identifier: Apache-2.0
 -- An empty body: the reference is opened, and closed at one item more.
 use Rattle.std.proofs.Common.{ℕ, List, [], ◌∷◌, ◌++◌, ◌<◌, ◌^◌, length, refl, MutBor}
 use seplogic.Ra.Ura.{Ura}

@@ -1,3 +1,4 @@
+-- SPDX-License-Identifier: Apache-2.0
 -- A value of no bytes, at the empty list.
 use Rattle.std.proofs.Common.{[], ◌∷◌, refl}
 use mir.Val.{Val, vstruct, vcons, vnil}

@@ -1,3 +1,4 @@
+-- SPDX-License-Identifier: Apache-2.0
 use Rattle.std.proofs.Common.{◌≡◌, length, ap, ◌∙◌, subst}
 use Rattle.sh_machines.specs.Event.{written}
 use Rattle.sh_machines.specs.Shuffled.{Shuffled}

@@ -1,3 +1,4 @@
+-- SPDX-License-Identifier: Apache-2.0
 use Rattle.std.proofs.Common.{◌≡◌, ap, ◌∙◌, subst}
 use Rattle.sh_machines.specs.Shuffled.{Shuffled}
 use Rattle.shuf_machine.specs.Past.{Past, guest_of}

@@ -1,3 +1,4 @@
+-- SPDX-License-Identifier: Apache-2.0
 use Rattle.std.proofs.lemmas.Option.{IfSome_then}
 use Rattle.thread_step.proofs.Lookups.{listed_task, listed_next, none_listed}
 use Rattle.thread_step.proofs.code.Code.listed_at.Goals as goal
