@@ -7,12 +7,12 @@ use Rattle.std.proofs.lemmas.Option.{cond_some, none-some, option_and_then_some,
 use Rattle.cli_words.specs.declared.options.Allowed.{Allowed}
 use Rattle.cli_words.specs.declared.options.Opts.{Opts}
 use Rattle.cli_words.specs.declared.options.Valued.{Valued}
-use Rattle.cli_words.specs.declared.options.Valued.TheVariants.{Seed, Period, Quantum, Steps, Input}
+use Rattle.cli_words.specs.declared.options.Valued.TheVariants.{Seed, Period, Quantum, Steps, Input, Report}
 use Rattle.cli_words.specs.declared.words.Command.{Command}
 use Rattle.cli_words.specs.declared.words.Command.TheVariants.{Run, Plain, Check, Asm, Demo, Help}
 use Rattle.cli_words.specs.Limits.{least_guest, most_guest, least_period, most_period, least_quantum, most_quantum, least_steps, most_steps}
 use Rattle.cli_words.specs.Numbers.{is_decimal, decimal_value, number_in, seed_of}
-use Rattle.cli_words.specs.Options.{Reading, opening, default_opts, run_allowed, plain_allowed, valued_named, behind, with_value, serial_read, valued_read, word_read, whole, options_of}
+use Rattle.cli_words.specs.Options.{Reading, opening, default_opts, run_allowed, plain_allowed, valued_named, behind, form_of, with_value, serial_read, valued_read, word_read, whole, options_of}
 use Rattle.cli_words.specs.Ranges.{IsInRange, HasRanges}
 use Rattle.cli_words.specs.Texts.{same, is_file_word}
 use Rattle.cli_words.specs.Words.{file_with, serial_run, run_of, plain_of, check_of, asm_of, demo_of, help_of, command_of}
@@ -79,6 +79,8 @@ value_ranged opts Steps word next ranged is =
 value_ranged opts Input word next ranged is =
     let found = cond_some (is_file_word word) (record opts { input = Some word }) next is in
     subst IsInRange found.1 (alike opts (record opts { input = Some word }) ranged refl refl refl)
+value_ranged opts Report word next ranged is =
+    mapped (λ full. record opts { full = full }) (form_of word) next is (λ full read e. subst IsInRange e (alike opts (record opts { full = full }) ranged refl refl refl))
 
 serial_ranged : (r s : Reading) → IsInRange r.opts → serial_read r ≡ Some s → IsInRange s.opts
 serial_ranged r s ranged is =

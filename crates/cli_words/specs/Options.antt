@@ -1,11 +1,11 @@
 -- SPDX-License-Identifier: Apache-2.0
 -- The options behind a verb's plain words, in any order: each at most once, and its value as the next word.
-use Rattle.std.specs.Prelude.{ℕ, true, false, List, [], ◌∷◌, codes, Option, Some, None, option_map, option_and_then, if◌then◌else◌}
+use Rattle.std.specs.Prelude.{ℕ, Bool, true, false, List, [], ◌∷◌, codes, Option, Some, None, option_map, option_and_then, if◌then◌else◌}
 use Rattle.std.specs.Bool.{then_some}
 use Rattle.cli_words.specs.declared.options.Allowed.{Allowed}
 use Rattle.cli_words.specs.declared.options.Opts.{Opts}
 use Rattle.cli_words.specs.declared.options.Valued.{Valued}
-use Rattle.cli_words.specs.declared.options.Valued.TheVariants.{Seed, Period, Quantum, Steps, Input}
+use Rattle.cli_words.specs.declared.options.Valued.TheVariants.{Seed, Period, Quantum, Steps, Input, Report}
 use Rattle.cli_words.specs.Limits.{least_period, most_period, default_period, least_quantum, most_quantum, default_quantum, least_steps, most_steps, default_steps, default_workers}
 use Rattle.cli_words.specs.Numbers.{number_in, seed_of}
 use Rattle.cli_words.specs.Texts.{same, is_file_word}
@@ -16,11 +16,11 @@ default_opts = record { seed = None; period = default_period; quantum = default_
 
 -- the options of a run
 abbrev pub run_allowed : Allowed
-run_allowed = record { serial = true; seed = true; period = true; quantum = true; steps = true; input = true }
+run_allowed = record { serial = true; seed = true; period = true; quantum = true; steps = true; input = true; report = true }
 
 -- those of a run that is never moved
 abbrev pub plain_allowed : Allowed
-plain_allowed = record { serial = false; seed = false; period = false; quantum = true; steps = true; input = true }
+plain_allowed = record { serial = false; seed = false; period = false; quantum = true; steps = true; input = true; report = false }
 
 -- the option that has a value and this name
 abbrev pub valued_named : List ℕ → Option Valued
@@ -29,7 +29,8 @@ valued_named name =
     else (if same name (codes "--period") then Some Period
     else (if same name (codes "--quantum") then Some Quantum
     else (if same name (codes "--steps") then Some Steps
-    else (if same name (codes "--input") then Some Input else None))))
+    else (if same name (codes "--input") then Some Input
+    else (if same name (codes "--report") then Some Report else None)))))
 
 -- what may come behind this option; none where it may not come
 abbrev pub behind : Allowed → Valued → Option Allowed
@@ -38,6 +39,11 @@ behind allowed Period = then_some allowed.period (record allowed { period = fals
 behind allowed Quantum = then_some allowed.quantum (record allowed { quantum = false })
 behind allowed Steps = then_some allowed.steps (record allowed { steps = false })
 behind allowed Input = then_some allowed.input (record allowed { input = false })
+behind allowed Report = then_some allowed.report (record allowed { report = false })
+
+-- whether a report of this form is the full one; none where no form has the name
+abbrev pub form_of : List ℕ → Option Bool
+form_of word = if same word (codes "short") then Some false else (if same word (codes "full") then Some true else None)
 
 -- the options with the word as the value of this one; none where it is no such value
 abbrev pub with_value : Opts → Valued → List ℕ → Option Opts
@@ -46,6 +52,7 @@ with_value opts Period word = option_map (λ n. record opts { period = n }) (num
 with_value opts Quantum word = option_map (λ n. record opts { quantum = n }) (number_in least_quantum most_quantum word)
 with_value opts Steps word = option_map (λ n. record opts { steps = n }) (number_in least_steps most_steps word)
 with_value opts Input word = if is_file_word word then Some (record opts { input = Some word }) else None
+with_value opts Report word = option_map (λ full. record opts { full = full }) (form_of word)
 
 -- what was read: the options that may still come, the one whose value is the next word, and those that came
 pub record Reading : Type 0 where

@@ -1,7 +1,7 @@
 // SPDX-License-Identifier: Apache-2.0
 //! The options of the command line, one by one.
 ghost use Rattle.std.specs.Prelude.{◌≡◌, IfOk, IsErrOf, option_map};
-ghost use Rattle.cli_words.specs.Options.{default_opts, run_allowed, plain_allowed, valued_named as valued_named_of, behind as behind_of, with_value as with_value_of};
+ghost use Rattle.cli_words.specs.Options.{default_opts, run_allowed, plain_allowed, valued_named as valued_named_of, behind as behind_of, with_value as with_value_of, form_of};
 ghost use Rattle.cli_words.specs.Ranges.{IsInRange};
 ghost use Rattle.cli_words.specs.Told.{told};
 
@@ -57,6 +57,7 @@ pub enum Valued {
     Quantum,
     Steps,
     Input,
+    Report,
 }
 
 /// The option that has a value and this name.
@@ -69,6 +70,7 @@ pub fn valued_named(name: &str) -> Option<Valued>
         "--quantum" => Valued::Quantum,
         "--steps" => Valued::Steps,
         "--input" => Valued::Input,
+        "--report" => Valued::Report,
         _ => return None,
     };
     Some(option)
@@ -83,6 +85,7 @@ pub struct Allowed {
     pub quantum: bool,
     pub steps: bool,
     pub input: bool,
+    pub report: bool,
 }
 
 impl Allowed {
@@ -97,6 +100,7 @@ impl Allowed {
             quantum: true,
             steps: true,
             input: true,
+            report: true,
         }
     }
 
@@ -111,6 +115,7 @@ impl Allowed {
             quantum: true,
             steps: true,
             input: true,
+            report: false,
         }
     }
 
@@ -139,7 +144,22 @@ impl Allowed {
                 input: false,
                 ..self
             }),
+            Valued::Report => self.report.then_some(Allowed {
+                report: false,
+                ..self
+            }),
         }
+    }
+}
+
+/// Whether a report in the form of this name is the full one; None where no form has the name.
+fn is_full(word: &str) -> Option<bool>
+    ensures { result ≡ form_of word.now }
+{
+    match word {
+        "short" => Some(false),
+        "full" => Some(true),
+        _ => None,
     }
 }
 
@@ -152,6 +172,7 @@ pub struct Options<'a> {
     pub steps: u64,
     pub serial: bool,
     pub input: Option<&'a str>,
+    pub full: bool,
 }
 
 impl<'a> Options<'a> {
@@ -166,6 +187,7 @@ impl<'a> Options<'a> {
             steps: DEFAULT_STEPS,
             serial: false,
             input: None,
+            full: false,
         }
     }
 
@@ -203,6 +225,10 @@ impl<'a> Options<'a> {
                     None
                 }
             }
+            Valued::Report => {
+                let full = is_full(word)?;
+                Some(Options { full, ..self })
+            }
         }
     }
 
@@ -223,7 +249,7 @@ impl<'a> Options<'a> {
             workers: DEFAULT_WORKERS,
             serial: self.serial,
             input,
-            full: false,
+            full: self.full,
         })
     }
 }
