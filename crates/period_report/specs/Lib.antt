@@ -2,3 +2,6 @@
 pub mod Text
 pub mod Numbered
 pub mod Kept
+pub mod Full
+pub mod Replay
+pub mod Report

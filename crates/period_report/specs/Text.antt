@@ -15,10 +15,6 @@ use Rattle.sh_types.specs.declared.runs.Trap.TheVariants.{Illegal, Breakpoint, F
 use Rattle.sh_types.specs.Image.{sizes_of}
 use Rattle.sh_machines.specs.Shuffled.{Shuffled}
 use Rattle.layout_maker.specs.Cell.{cell_of}
-use Rattle.shuf_machine.specs.declared.answers.Origin.{Origin}
-use Rattle.shuf_machine.specs.Run.{shuffled_run}
-use Rattle.period_report.specs.declared.writer.Form.{Form}
-use Rattle.period_report.specs.declared.writer.Form.TheVariants.{Short}
 
 -- pieces of text, one behind the other
 abbrev pub text : List (List ℕ) → List ℕ
@@ -105,10 +101,3 @@ end_line (Some (Leak hart p)) = text (codes "end leak hart " ∷ decimal hart �
 -- the lines on the state in which the events left the run
 abbrev pub tail_text : Shuffled → List ℕ
 tail_text s = count_lines (length s.harts) s.count ++ end_line s.end
-
--- ---- the whole
-
--- the head, the opening layout, the events, the tail
-unfoldable pub report_text : Form → Image → Origin → ℕ → List Event → List ℕ
-report_text Short image o period events =
-    run_lines o.seed period ++ line_of image ++ layout_line 1 0 (cell_of o.seed 1) ++ events_text o.seed 0 events ++ tail_text (shuffled_run image o events)

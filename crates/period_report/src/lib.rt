@@ -3,7 +3,11 @@
 #![tactic(auto)]
 
 mod cells;
+mod copies;
+mod full;
 mod lines;
+mod moves;
+mod replay;
 mod sizes;
 mod writer;
 

@@ -5,19 +5,22 @@ ghost use Rattle.shuf_machine.specs.Past.{state_of};
 ghost use Rattle.layout_maker.specs.Cell.{cell_of};
 ghost use Rattle.period_report.specs.Kept.{IsKept};
 ghost use Rattle.period_report.specs.Numbered.{IsNext, IsNumbered, newest_after};
-ghost use Rattle.period_report.specs.Text.{event_text, events_text, counted, count_after, run_lines, line_of, layout_line, tail_text, report_text};
+ghost use Rattle.period_report.specs.Text.{event_text, events_text, counted, count_after, run_lines, line_of, layout_line, tail_text};
+ghost use Rattle.period_report.specs.Report.{middle_text, report_text};
 
 use crate::cells::{Cells, publication};
-use crate::lines;
 use crate::sizes::total;
+use crate::{full, lines};
 use sh_types::{Bytes, Event, NoMemory};
 use shuf_machine::{Machine, machines_stand};
 use std::alloc::{AllocError, Global};
 
-/// How much a report tells. The short form has the layouts that came and went; it is the only one that is built.
+/// How much a report tells. The short form has the layouts that came and went; the full form has besides a digest of each
+/// copy, and each return word that moved.
 #[derive(Clone, Copy, Debug, PartialEq, Eq)]
 pub enum Form {
     Short,
+    Full,
 }
 
 /// The text of one event.
@@ -113,27 +116,29 @@ fn tail(alloc: Global, machine: &Machine) -> Result<String, AllocError>
     Ok(text)
 }
 
-/// The short report.
-#[tactic(auto, unfolding(crate::specs::Text::report_text))]
-fn short(alloc: Global, machine: &Machine, period: u64) -> Result<Bytes, NoMemory>
-    ensures { IfOk result (λ text. text ≡ report_text Form.Short machine.now.image machine.now.origin period machine.now.journal) }
+/// The lines on the opening layout and on the events, in this form.
+fn middle(alloc: Global, machine: &Machine, form: Form) -> Result<String, NoMemory>
+    ensures { IfOk result (λ text. string_bytes text ≡ middle_text form machine.now.image machine.now.origin machine.now.journal) }
+{
+    match form {
+        Form::Short => Ok(layouts(alloc, machine)?),
+        Form::Full => full::layouts(alloc, machine),
+    }
+}
+
+/// The report on what the machine has done, in this form: a text of lines that end by LF. `period` is the number of
+/// instructions between publications, which the report names. For the full form the events are run again, on a machine
+/// that is made for it. Err only where memory is refused.
+#[tactic(auto, unfolding(crate::specs::Report::report_text))]
+pub fn report(alloc: Global, machine: &Machine, period: u64, form: Form) -> Result<Bytes, NoMemory>
+    ensures { IfOk result (λ text. text ≡ report_text form machine.now.image machine.now.origin period machine.now.journal) }
 {
     let mut text = lines::run(alloc, &machine.origin().seed, period)?;
     let image = image(alloc, machine)?;
     text.push_str(image.as_str())?;
-    let layouts = layouts(alloc, machine)?;
-    text.push_str(layouts.as_str())?;
+    let middle = middle(alloc, machine, form)?;
+    text.push_str(middle.as_str())?;
     let tail = tail(alloc, machine)?;
     text.push_str(tail.as_str())?;
     Ok(Bytes::from_vec(text.into_bytes()))
-}
-
-/// The report on what the machine has done, in this form: a text of lines that end by LF. `period` is the number of
-/// instructions between publications, which the report names. Err only where memory is refused.
-pub fn report(alloc: Global, machine: &Machine, period: u64, form: Form) -> Result<Bytes, NoMemory>
-    ensures { IfOk result (λ text. text ≡ report_text form machine.now.image machine.now.origin period machine.now.journal) }
-{
-    match form {
-        Form::Short => short(alloc, machine, period),
-    }
 }
