@@ -2,3 +2,6 @@
 pub mod Counting
 pub mod Numbering
 pub mod Padding
+pub mod Replaying
+pub mod Coding
+pub mod Telling

@@ -9,6 +9,15 @@ use sh_types::{CodeCopy, Layout};
 use sha2::{Digest, Sha256};
 use std::alloc::{AllocError, Global};
 
+/// So many words from the first on, or as many as there are.
+fn part(words: &[u32], first: usize, count: usize) -> &[u32]
+    ensures { result.now ≡ take count (drop first words.now) }
+{
+    let first = first.min(words.len());
+    let rest = &words[first..];
+    &rest[..count.min(rest.len())]
+}
+
 /// The words of a function and its guard, as bytes behind the others.
 fn push_function(
     bytes: &mut Vec<u8>,
@@ -19,8 +28,8 @@ fn push_function(
     ensures { OnOk result (bytes.new.items ≡ bytes.old.items ++ word_bytes (take (size / 4 + 1) (drop ((place - copy.now.start) / 4) copy.now.words))) }
 {
     let first = (place.saturating_sub(copy.start) / 4) as usize;
-    let count = (size / 4) as usize + 1;
-    for word in copy.words.as_slice().iter().skip(first).take(count) {
+    let words = part(copy.words.as_slice(), first, (size / 4) as usize + 1);
+    for word in words {
         bytes.extend_from_slice(word.to_le_bytes().as_slice())?;
     }
     Ok(())

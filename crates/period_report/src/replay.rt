@@ -1,37 +1,47 @@
 // SPDX-License-Identifier: Apache-2.0
 //! Events that are run again, with what each writes in the full form.
-ghost use Rattle.std.specs.Prelude.{◌≡◌, ◌+◌, ◌<◌, ◌^◌, ◌++◌, true, [], ◌∷◌, IfOk, OnOk, string_bytes, length};
-ghost use Rattle.sh_machines.specs.Event.{instructions, can_all, Allowed, written};
+ghost use Rattle.std.specs.Prelude.{◌≡◌, ◌+◌, ◌<◌, ◌≤◌, ◌^◌, true, [], ◌∷◌, IfOk, OnOk, string_bytes, length};
+ghost use Rattle.sh_machines.specs.Event.{can_all, Allowed, written};
 ghost use Rattle.shuf_machine.specs.Past.{state_of};
 ghost use Rattle.period_report.specs.Full.{layout_text, move_text, full_event};
-ghost use Rattle.period_report.specs.Replay.{setting_in, IsIn, IsAfter};
+ghost use Rattle.period_report.specs.Replay.{setting_in, IsAfter};
 ghost use Rattle.period_report.specs.Text.{erase_line};
 
 use crate::copies::digest;
 use crate::lines;
 use crate::moves::words;
-use sh_law::instructions_are_counted;
 use sh_types::{CopyFetch, Event, NoMemory, Steps};
-use shuf_machine::{Machine, MachineNo, allowed_events_are_not_refused, machines_stand};
+use shuf_machine::{Machine, MachineNo, allowed_events_are_not_refused};
 use std::alloc::Global;
 use std::sync::ledger::Ledger;
+
+/// Some instructions of a hart, of which so many are allowed.
+fn run_some(machine: &mut Machine, hart: u32, limit: u64) -> Result<u64, NoMemory>
+    requires some { 1 ≤ limit }
+    requires allowed { Allowed (setting_in machine.old) (Event.Run hart limit) (state_of machine.old) }
+    requires room { length (written machine.old.journal) + limit < 2 ^ 64 }
+    ensures after { IfOk result (λ n. IsAfter (Event.Run hart n) machine.old machine.new) }
+    ensures some { IfOk result (λ n. 1 ≤ n) }
+    ensures few { IfOk result (λ n. n ≤ limit) }
+{
+    let _ = machine.count();
+    allowed_events_are_not_refused();
+    match machine.run_direct(hart, limit, &mut CopyFetch) {
+        Ok(count) => Ok(count),
+        Err(MachineNo::NoMemory) => Err(NoMemory),
+        Err(MachineNo::NotEnabled { .. }) => unreachable!(),
+    }
+}
 
 /// So many instructions of a hart, in as many runs as it takes.
 fn run(machine: &mut Machine, hart: u32, count: u64) -> Result<(), NoMemory>
     requires can { can_all (setting_in machine.old) hart count (state_of machine.old) ≡ true }
-    requires room { (state_of machine.old).count + count < 2 ^ 64 }
-    ensures { OnOk result (IsIn machine.old machine.new (instructions (setting_in machine.old) hart count (state_of machine.old))) }
+    requires room { length (written machine.old.journal) + count < 2 ^ 64 }
+    ensures { OnOk result (IsAfter (Event.Run hart count) machine.old machine.new) }
 {
-    machines_stand(machine);
-    instructions_are_counted();
-    allowed_events_are_not_refused();
     let mut left = count;
     while left > 0 {
-        match machine.run_direct(hart, left, &mut CopyFetch) {
-            Ok(done) => left -= done,
-            Err(MachineNo::NoMemory) => return Err(NoMemory),
-            Err(MachineNo::NotEnabled { .. }) => unreachable!(),
-        }
+        left -= run_some(machine, hart, left)?;
     }
     Ok(())
 }
@@ -121,7 +131,7 @@ pub fn event<L: Ledger>(
     steps: &mut Steps<L>,
 ) -> Result<String, NoMemory>
     requires allowed { Allowed (setting_in machine.old) of (state_of machine.old) }
-    requires room { (state_of machine.old).count + length (written (of ∷ [])) < 2 ^ 64 }
+    requires room { length (written machine.old.journal) + length (written (of ∷ [])) < 2 ^ 64 }
     ensures after { OnOk result (IsAfter of machine.old machine.new) }
     ensures text { IfOk result (λ text. string_bytes text ≡ full_event (setting_in machine.old) machine.old.origin.seed (state_of machine.old) of) }
 {
