@@ -1,13 +1,13 @@
 -- SPDX-License-Identifier: Apache-2.0
 -- Events that a machine runs again.
-use Rattle.std.proofs.Common.{◌≡◌, ℕ, zero, suc, ◌+◌, ◌-◌, ◌<◌, ◌≤◌, ◌^◌, Bool, true, false, Option, Some, None, List, [], ◌∷◌, ◌++◌, length, replicate, drop, get_or, add-one, drop-cons, refl, sym, ap, ◌∙◌, subst, arith, append_assoc}
-use Rattle.std.specs.Prelude.{◌&&◌, nat_lt}
+use Rattle.std.proofs.Common.{◌≡◌, ℕ, zero, suc, ◌+◌, ◌-◌, ◌<◌, ◌≤◌, ◌^◌, true, Option, Some, None, List, [], ◌∷◌, ◌++◌, length, replicate, drop, get_or, add-one, drop-cons, refl, sym, ap, ◌∙◌, subst, arith}
+use Rattle.std.specs.Prelude.{nat_lt}
 use Rattle.std.proofs.lemmas.Bool.{and_parts}
 use Rattle.std.proofs.lemmas.Bool.Decides.{nat_tests}
 use Rattle.std.proofs.lemmas.List.{length-append, length-replicate}
 use Rattle.sh_types.specs.declared.runs.Event.{Event}
 use Rattle.sh_types.specs.declared.runs.Event.TheVariants.{Run, Migrate, Publish, Erase}
-use Rattle.sh_machines.specs.Event.{instructions, can_run, can_all, after_event, state_after, Allowed, IsLegalFrom, IsLegalIn, written}
+use Rattle.sh_machines.specs.Event.{instructions, can_run, can_all, state_after, Allowed, IsLegalFrom, IsLegalIn, written}
 use Rattle.sh_machines.specs.Shuffled.{Setting, Shuffled, shuffled_step}
 use Rattle.sh_law.proofs.Lists.{eq_of, and_second}
 use Rattle.sh_law.proofs.Prefixes.{state_more}

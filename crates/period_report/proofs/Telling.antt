@@ -1,6 +1,6 @@
 -- SPDX-License-Identifier: Apache-2.0
 -- What events that are run again write.
-use Rattle.std.proofs.Common.{◌≡◌, ℕ, ◌+◌, Result, Ok, Err, List, ◌∷◌, ◌++◌, append_assoc, length, sym, ap, ◌∙◌, subst, inl}
+use Rattle.std.proofs.Common.{◌≡◌, ℕ, ◌+◌, Result, Ok, Err, List, ◌∷◌, ◌++◌, append_assoc, length, sym, ap, ◌∙◌, inl}
 use Rattle.std.specs.Prelude.{OnOk}
 use Rattle.sha2.specs.Sha256.{sha256}
 use Rattle.sh_types.specs.declared.layouts.CodeCopy.{CodeCopy}

@@ -1,6 +1,6 @@
 -- SPDX-License-Identifier: Apache-2.0
 -- A machine on which events are run again. This project's own.
-use Rattle.std.specs.Prelude.{◌≡◌, ℕ, ◌+◌, ◌<◌, ◌^◌, List, [], ◌∷◌, length}
+use Rattle.std.specs.Prelude.{◌≡◌, ◌+◌, ◌<◌, ◌^◌, List, [], ◌∷◌, length}
 use Rattle.sh_types.specs.declared.runs.Event.{Event}
 use Rattle.sh_machines.specs.Event.{after_event, IsLegalFrom, written}
 use Rattle.sh_machines.specs.Shuffled.{Setting}

@@ -1,5 +1,5 @@
 -- SPDX-License-Identifier: Apache-2.0
-use Rattle.std.proofs.Common.{◌≡◌, ◌+◌, ◌≤◌, ◌∷◌, ◌++◌, ◌∙◌, length, drop, get_or, refl, sym, ap, subst, arith, append-nil}
+use Rattle.std.proofs.Common.{◌+◌, ◌≤◌, ◌++◌, ◌∙◌, length, drop, get_or, refl, sym, ap, subst, arith, append-nil}
 use Rattle.std.specs.Prelude.{string_bytes}
 use Rattle.std.proofs.lemmas.Bool.Decides.{nat_tests}
 use Rattle.std.proofs.lemmas.List.{drop_all}
@@ -42,7 +42,7 @@ loop-one-preserved g c =
       image = after.image ∙ c.loop-one.invariant.image;
       origin = after.origin ∙ c.loop-one.invariant.origin;
       can = can_next m c.event.new.machine e es (subst (CanRun m) from c.loop-one.invariant.can) after;
-      text = told_next m c.event.new.machine e es (string_bytes c.loop-one.text) (string_bytes c.push_str.new.self) c.as_str.result.now (string_bytes c.in_ok-lines.lines) _ after c.in_ok-lines.ensures.text c.as_str.ensures.value c.in_ok-push_str.ensures.bytes
+      text = told_next m c.event.new.machine e es (string_bytes c.loop-one.text) (string_bytes c.push_str.new.self) c.as_str.result.now (string_bytes c.in_ok-lines.lines) (full_events (setting_in c.args.machine.now) c.args.machine.now.origin.seed (state_of c.args.machine.now) c.args.of.now) after c.in_ok-lines.ensures.text c.as_str.ensures.value c.in_ok-push_str.ensures.bytes
           (ap (λ xs. string_bytes c.loop-one.text ++ full_events (setting_in m) m.origin.seed (state_of m) xs) (sym from) ∙ c.loop-one.invariant.text);
     }
 

@@ -1,5 +1,5 @@
 -- SPDX-License-Identifier: Apache-2.0
-use Rattle.std.proofs.Common.{◌≡◌, ◌<◌, ◌^◌, length, sym, ap, subst, arith, ◌∙◌}
+use Rattle.std.proofs.Common.{◌<◌, ◌^◌, length, sym, ap, subst, arith, ◌∙◌}
 use Rattle.std.specs.Prelude.{string_bytes}
 use Rattle.sh_machines.specs.Event.{written}
 use Rattle.shuf_machine.specs.Past.{state_of}
