@@ -56,7 +56,7 @@ module _ (P : Due → Type 0) (lines : (line : List ℕ) → P (line_due 12 line
   of_run : (opts : Opts) (file input seed : List ℕ) → P (accepted_due opts file input seed)
   of_run opts file input seed =
       let m : Past = past_of opts (framed_image file) file input (seed_for opts seed) in
-      ended (guest_of m).output (Some (report_of opts.period m)) (guest_of m).end (Some m)
+      ended (guest_of m).output (Some (report_of opts m)) (guest_of m).end (Some m)
 
   of_plain : (opts : Opts) (file input : List ℕ) → P (plain_due opts (framed_image file) input)
   of_plain opts file input =

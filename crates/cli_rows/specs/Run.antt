@@ -8,8 +8,9 @@ use Rattle.sh_machines.specs.Serial.{Schedule, serial_list}
 use Rattle.image_rules.specs.Framed.{framed_image}
 use Rattle.shuf_machine.specs.declared.answers.Origin.{Origin}
 use Rattle.shuf_machine.specs.Past.{Past, guest_of, opening}
-use Rattle.period_report.specs.declared.writer.Form.TheVariants.{Short}
-use Rattle.period_report.specs.Text.{report_text}
+use Rattle.period_report.specs.declared.writer.Form.{Form}
+use Rattle.period_report.specs.declared.writer.Form.TheVariants.{Short, Full}
+use Rattle.period_report.specs.Report.{report_text}
 use Rattle.cli_words.specs.declared.options.Opts.{Opts}
 use Rattle.cli_rows.specs.declared.due.Due.{Due}
 
@@ -33,9 +34,13 @@ run_by opts m = record m { journal = serial_list m.image m.origin.input (schedul
 abbrev pub past_of : Opts → Image → (file input seed : List ℕ) → Past
 past_of opts image file input seed = run_by opts (opening image (origin_of file input seed))
 
--- the short report on a run
-abbrev pub report_of : (period : ℕ) → Past → List ℕ
-report_of period m = report_text Short m.image m.origin period m.journal
+-- the form of the report that the words ask for
+abbrev pub form_of : Opts → Form
+form_of opts = if opts.full then Full else Short
+
+-- the report on a run
+abbrev pub report_of : Opts → Past → List ℕ
+report_of opts m = report_text (form_of opts) m.image m.origin opts.period m.journal
 
 -- the status of a run, by its end: the run may go on after its last instruction
 abbrev pub run_status : Option End → ℕ
@@ -50,9 +55,9 @@ ended_due out report end machine =
     record { store = None; out = Some out; report = report; status = run_status end; end = end; machine = machine }
 
 -- of a moved machine: all that the unmoved machine wrote, and the report
-abbrev pub ran_due : (period : ℕ) → Past → Due
-ran_due period m = ended_due (guest_of m).output (Some (report_of period m)) (guest_of m).end (Some m)
+abbrev pub ran_due : Opts → Past → Due
+ran_due opts m = ended_due (guest_of m).output (Some (report_of opts m)) (guest_of m).end (Some m)
 
 -- a run of an accepted file
 abbrev pub accepted_due : Opts → (file input seed : List ℕ) → Due
-accepted_due opts file input seed = ran_due opts.period (past_of opts (framed_image file) file input (seed_for opts seed))
+accepted_due opts file input seed = ran_due opts (past_of opts (framed_image file) file input (seed_for opts seed))

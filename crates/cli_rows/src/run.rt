@@ -4,7 +4,7 @@ ghost use Rattle.std.specs.Prelude.{◌≡◌, [], IfOk, OnOk};
 ghost use Rattle.shuf_machine.specs.Past.{guest_of};
 ghost use Rattle.cli_words.specs.Ranges.{IsInRange};
 ghost use Rattle.cli_rows.specs.Judged.{IsImageOf};
-ghost use Rattle.cli_rows.specs.Run.{run_status, report_of, ran_due, run_by, accepted_due};
+ghost use Rattle.cli_rows.specs.Run.{run_status, form_of, report_of, ran_due, run_by, accepted_due};
 
 use crate::Due;
 use cli_words::Opts;
@@ -33,21 +33,28 @@ struct Told {
     report: Bytes,
 }
 
+/// The form of the report that the options ask for.
+fn form(opts: &Opts) -> Form
+    ensures { result ≡ form_of opts.now }
+{
+    if opts.full { Form::Full } else { Form::Short }
+}
+
 /// All that the guest wrote, and the report.
-fn tell(alloc: Global, machine: &Machine, period: u64) -> Result<Told, NoMemory>
+fn tell(alloc: Global, machine: &Machine, opts: &Opts) -> Result<Told, NoMemory>
     ensures out { IfOk result (λ t. t.out ≡ (guest_of machine.now).output) }
-    ensures report { IfOk result (λ t. t.report ≡ report_of period machine.now) }
+    ensures report { IfOk result (λ t. t.report ≡ report_of opts.now machine.now) }
 {
     let out = Bytes::from_slice(alloc, machine.output())?;
-    let report = report(alloc, machine, period, Form::Short)?;
+    let report = report(alloc, machine, opts.period, form(opts))?;
     Ok(Told { out, report })
 }
 
 /// A run that was made, and what it gives to the sinks.
-fn ran_with(told: Told, machine: Machine, period: u64) -> Due
+fn ran_with(told: Told, machine: Machine, opts: &Opts) -> Due
     requires out { told.out ≡ (guest_of machine).output }
-    requires report { told.report ≡ report_of period machine }
-    ensures { result ≡ ran_due period machine }
+    requires report { told.report ≡ report_of opts.now machine }
+    ensures { result ≡ ran_due opts.now machine }
 {
     let end = machine.end();
     Due {
@@ -81,21 +88,21 @@ fn run(alloc: Global, machine: &mut Machine, opts: &Opts) -> Result<Told, NoMemo
     requires range { IsInRange opts.now }
     ensures ran { OnOk result (machine.new ≡ run_by opts.now machine.old) }
     ensures out { IfOk result (λ t. t.out ≡ (guest_of machine.new).output) }
-    ensures report { IfOk result (λ t. t.report ≡ report_of opts.now.period machine.new) }
+    ensures report { IfOk result (λ t. t.report ≡ report_of opts.now machine.new) }
 {
     make_run(alloc, machine, opts)?;
-    tell(alloc, machine, opts.period)
+    tell(alloc, machine, opts)
 }
 
 /// What is due for a machine that has done nothing. It is run by reference, so that it is dropped in one place.
 fn of_machine(alloc: Global, machine: Machine, opts: &Opts) -> Result<Due, NoMemory>
     requires fresh { machine.journal ≡ [] }
     requires range { IsInRange opts.now }
-    ensures { IfOk result (λ due. due ≡ ran_due opts.now.period (run_by opts.now machine)) }
+    ensures { IfOk result (λ due. due ≡ ran_due opts.now (run_by opts.now machine)) }
 {
     let mut machine = machine;
     let told = run(alloc, &mut machine, opts)?;
-    Ok(ran_with(told, machine, opts.period))
+    Ok(ran_with(told, machine, opts))
 }
 
 /// What is due for a run of the image of the file: what the guest writes and the report. The seed of its layouts is that
