@@ -21,15 +21,16 @@ use Rattle.cli_words.specs.declared.options.Opts.{Opts}
 use Rattle.cli_words.specs.Options.{default_opts}
 use Rattle.cli_words.specs.declared.words.Command.{Command}
 use Rattle.cli_words.specs.declared.words.Command.TheVariants.{Run, Plain, Check, Asm, Demo, Help}
-use Rattle.cli_rows.specs.declared.due.Due.{Due}
+use Rattle.guest_dues.specs.declared.due.Due.{Due}
 use Rattle.cli_rows.specs.Demo.{demo_input, demo_ran, line_on}
 use Rattle.cli_rows.specs.Dues.{line_due, text_due, store_due}
 use Rattle.cli_rows.specs.Lines.{usage_line}
-use Rattle.cli_rows.specs.declared.way.Way.TheVariants.{Moved}
-use Rattle.cli_rows.specs.declared.way.Way.TheVariants as way
-use Rattle.cli_rows.specs.Plain.{harts_of, left_by, plain_report, plain_due}
-use Rattle.cli_rows.specs.Rows.{Row, demo_due, demo_file_due, guest_due, row_of, comes_to, unless_refused, goes_on, with_input, unless_faulty}
-use Rattle.cli_rows.specs.Run.{run_status, ended_due, past_of, seed_for, report_of, accepted_due}
+use Rattle.guest_dues.specs.declared.way.Way.TheVariants.{Moved}
+use Rattle.guest_dues.specs.declared.way.Way.TheVariants as way
+use Rattle.guest_dues.specs.Plain.{harts_of, left_by, plain_report, plain_due}
+use Rattle.cli_rows.specs.Rows.{Row, demo_due, demo_file_due, row_of, comes_to, unless_refused, goes_on, with_input, unless_faulty}
+use Rattle.guest_dues.specs.Guest.{guest_due}
+use Rattle.guest_dues.specs.Run.{run_status, ended_due, past_of, seed_for, report_of, accepted_due}
 use Rattle.cli_rows.specs.Said.{DueIsSaid}
 use Rattle.cli_rows.proofs.Each.{EachDue, each}
 

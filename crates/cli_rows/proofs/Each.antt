@@ -3,7 +3,7 @@
 use Rattle.std.proofs.Common.{◌≡◌, ℕ, List, [], ◌∷◌, Bool, true, false, length, subst}
 use Rattle.std.specs.Prelude.{Option, Some, None, nat_lt, if◌then◌else◌}
 use Rattle.sh_base.specs.Told.{FileAnswer}
-use Rattle.cli_rows.specs.declared.due.Due.{Due}
+use Rattle.guest_dues.specs.declared.due.Due.{Due}
 use Rattle.cli_rows.specs.Dues.{unreadable_due, too_long_due}
 use Rattle.cli_rows.specs.Rows.{Row, Load, Come, at_end, after_load, bytes_of, comes_to}
 use Rattle.cli_words.specs.Texts.{same}

@@ -6,8 +6,8 @@ use Rattle.sha2.specs.Sha256.{sha256}
 use Rattle.sh_machines.specs.Event.{written}
 use Rattle.shuf_machine.specs.Past.{Past, guest_of, state_of}
 use Rattle.period_report.specs.Text.{text}
-use Rattle.cli_rows.specs.declared.due.Due.{Due}
-use Rattle.cli_rows.specs.Run.{ended_due}
+use Rattle.guest_dues.specs.declared.due.Due.{Due}
+use Rattle.guest_dues.specs.Run.{ended_due}
 
 -- a byte of the input, by its place
 abbrev pub input_byte : ℕ → ℕ

@@ -1,7 +1,7 @@
 -- SPDX-License-Identifier: Apache-2.0
 -- What may be due: a line, nothing, or more.
 use Rattle.std.specs.Prelude.{ℕ, List, Some, None}
-use Rattle.cli_rows.specs.declared.due.Due.{Due}
+use Rattle.guest_dues.specs.declared.due.Due.{Due}
 use Rattle.cli_rows.specs.Lines.{help_text, usage_line, unreadable_line, too_long_line}
 
 -- a refusal: its line alone

@@ -4,8 +4,6 @@ pub mod Dues
 pub mod Judged
 pub mod Limits
 pub mod Lines
-pub mod Plain
 pub mod Rows
-pub mod Run
 pub mod Said
 pub mod Written

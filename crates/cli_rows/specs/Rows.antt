@@ -19,15 +19,15 @@ use Rattle.cli_words.specs.declared.words.Command.{Command}
 use Rattle.cli_words.specs.declared.words.Command.TheVariants.{Run, Plain, Check, Asm, Demo, Help}
 use Rattle.cli_words.specs.Options.{default_opts}
 use Rattle.cli_words.specs.Texts.{same}
-use Rattle.cli_rows.specs.declared.due.Due.{Due}
-use Rattle.cli_rows.specs.declared.way.Way.{Way}
-use Rattle.cli_rows.specs.declared.way.Way.TheVariants.{Moved}
-use Rattle.cli_rows.specs.declared.way.Way.TheVariants as way
+use Rattle.guest_dues.specs.declared.due.Due.{Due}
+use Rattle.guest_dues.specs.declared.way.Way.{Way}
+use Rattle.guest_dues.specs.declared.way.Way.TheVariants.{Moved}
+use Rattle.guest_dues.specs.declared.way.Way.TheVariants as way
 use Rattle.cli_rows.specs.Demo.{demo_input, demo_ran}
 use Rattle.cli_rows.specs.Dues.{line_due, text_due, store_due, help_due, usage_due, unreadable_due, too_long_due}
 use Rattle.cli_rows.specs.Limits.{file_limit}
-use Rattle.cli_rows.specs.Plain.{plain_due}
-use Rattle.cli_rows.specs.Run.{accepted_due, past_of}
+use Rattle.guest_dues.specs.Guest.{guest_due}
+use Rattle.guest_dues.specs.Run.{past_of}
 
 -- a command loads a file of at most so many bytes and goes on by them, or comes to what is due
 pub data Row : Type 0 where
@@ -72,11 +72,6 @@ demo_file_due number file seed = unless_refused (refusal_of file) (demo_ran numb
 -- a generated guest is assembled and run
 abbrev pub demo_due : ℕ → (seed : List ℕ) → Due
 demo_due number seed = unless_faulty (fault_of (guest_text number)) (demo_file_due number (elf_file (object_of (guest_text number))) seed)
-
--- what is due for a guest that was run so
-abbrev pub guest_due : Way → Opts → (file input : List ℕ) → Due
-guest_due (Moved seed) opts file input = accepted_due opts file input seed
-guest_due way.Plain opts file input = plain_due opts (framed_image file) input
 
 -- a guest is run, by its file and its input
 abbrev pub guest_row : Way → (name : List ℕ) → Opts → Row

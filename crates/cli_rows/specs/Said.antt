@@ -1,7 +1,7 @@
 -- SPDX-License-Identifier: Apache-2.0
 -- What is read off the commands' rows, of what is due.
 use Rattle.std.specs.Prelude.{◌≡◌, ◌≢◌, ◌≤◌, ◌∷◌, [], None, Contains}
-use Rattle.cli_rows.specs.declared.due.Due.{Due}
+use Rattle.guest_dues.specs.declared.due.Due.{Due}
 
 -- what is due has one of these statuses, stores with 0 alone, and has an end and a machine with 0 to 4 alone
 pub record DueIsSaid (due : Due) : Type 0 where

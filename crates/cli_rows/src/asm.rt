@@ -10,9 +10,9 @@ ghost use Rattle.cli_rows.specs.Rows.{asm_due};
 ghost use Rattle.cli_rows.specs.Written.{Writes};
 
 use crate::lines::faulty;
-use crate::{Due, FileStore};
 use asm_text::AsmFault;
 use elf_write::{assembled_objects_are_writable, write_elf};
+use guest_dues::{Due, FileStore};
 use rv_asm::assemble;
 use sh_types::{Bytes, Name, NoMemory};
 use std::alloc::Global;

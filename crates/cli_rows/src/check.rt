@@ -6,12 +6,12 @@ ghost use Rattle.elf_rules.specs.Elf.{segments_of};
 ghost use Rattle.image_rules.specs.Framed.{framed_image};
 ghost use Rattle.image_text.specs.Listing.{listing_of};
 ghost use Rattle.cli_rows.specs.Dues.{text_due};
-ghost use Rattle.cli_rows.specs.Judged.{IsImageOf};
+ghost use Rattle.guest_dues.specs.Loaded.{IsImageOf};
 ghost use Rattle.cli_rows.specs.Rows.{check_due};
 
-use crate::Due;
 use crate::judging::{Judged, judge};
 use crate::lines::text;
+use guest_dues::Due;
 use guest_image::mapped_bytes;
 use image_text::listing;
 use sh_types::{Image, NoMemory};

@@ -3,9 +3,9 @@
 ghost use Rattle.std.specs.Prelude.{IfOk};
 ghost use Rattle.cli_rows.specs.Judged.{IsJudged};
 
-use crate::Due;
 use crate::lines::refused;
 use elf_rules::LoadFault;
+use guest_dues::Due;
 use guest_image::load_image;
 use sh_types::{Image, NoMemory};
 use std::alloc::Global;

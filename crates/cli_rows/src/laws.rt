@@ -3,7 +3,7 @@
 ghost use Rattle.std.specs.Prelude.{◌≡◌, List, ℕ, Option, Some};
 ghost use Rattle.sh_base.specs.Told.{FileAnswer};
 ghost use Rattle.cli_words.specs.declared.words.Command.{Command};
-ghost use Rattle.cli_rows.specs.declared.due.Due.{Due};
+ghost use Rattle.guest_dues.specs.declared.due.Due.{Due};
 ghost use Rattle.cli_rows.specs.Rows.{row_of, comes_to};
 ghost use Rattle.cli_rows.specs.Said.{DueIsSaid};
 

@@ -5,9 +5,9 @@ ghost use Rattle.image_text.specs.Lines.{fault_line, source_line as source_line_
 ghost use Rattle.cli_rows.specs.Dues.{line_due, text_due, help_due, usage_due, unreadable_due, too_long_due};
 ghost use Rattle.cli_rows.specs.Lines.{unwritable_line, longer_front};
 
-use crate::Due;
 use asm_text::AsmRule;
 use elf_rules::LoadFault;
+use guest_dues::Due;
 use image_text::{refusal_line, source_line};
 use sh_types::{Bytes, NoMemory};
 use std::alloc::{AllocError, Global};

@@ -7,9 +7,9 @@ use Rattle.sh_base.specs.Held.{Stores, OthersStand}
 use Rattle.sh_base.specs.declared.files.FileWord.TheVariants as words
 use Rattle.sh_base.specs.Told.{FileAnswer}
 use Rattle.cli_words.specs.declared.words.Command.{Command}
-use Rattle.cli_rows.specs.declared.due.Due.{Due}
+use Rattle.guest_dues.specs.declared.due.Due.{Due}
 use Rattle.shuf_cli.specs.declared.due.Done.{Done}
-use Rattle.cli_rows.specs.declared.due.FileStore.{FileStore}
+use Rattle.guest_dues.specs.declared.due.FileStore.{FileStore}
 use Rattle.shuf_cli.specs.declared.due.Outcome.{Outcome}
 use Rattle.sh_types.specs.declared.runs.NoMemory.{NoMemory}
 use Rattle.shuf_cli.specs.Answer.{FilesState, World, Grows, Wrote, Given, IsStored, IsUnstored, Delivered, CameOut, done_by, done_of, unstored_due}

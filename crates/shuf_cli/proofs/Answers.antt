@@ -6,9 +6,9 @@ use Rattle.std.proofs.lemmas.Bool.{cases_eq}
 use Rattle.sh_base.specs.Faults.{Rose}
 use Rattle.sh_base.specs.Told.{FileAnswer}
 use Rattle.cli_words.specs.declared.words.Command.{Command}
-use Rattle.cli_rows.specs.declared.due.Due.{Due}
+use Rattle.guest_dues.specs.declared.due.Due.{Due}
 use Rattle.shuf_cli.specs.declared.due.Done.{Done}
-use Rattle.cli_rows.specs.declared.due.FileStore.{FileStore}
+use Rattle.guest_dues.specs.declared.due.FileStore.{FileStore}
 use Rattle.shuf_cli.specs.Answer.{SinkState, World, Given, Refused, IsStored, IsUnstored, Delivered, unstored_due}
 use Rattle.cli_rows.specs.Dues.{usage_due}
 use Rattle.shuf_cli.specs.Headline.{Answered}

@@ -4,7 +4,7 @@ use Rattle.std.proofs.Common.{ℕ, List, sym, subst}
 use Rattle.std.specs.Prelude.{◌≡◌, Option, Some, None, IsSomeAnd, Result, Ok, Err, IfOk, OnErr}
 use Rattle.elf_rules.specs.declared.refusals.LoadFault.{LoadFault}
 use Rattle.sh_types.specs.declared.runs.NoMemory.{NoMemory}
-use Rattle.cli_rows.specs.declared.due.Due.{Due}
+use Rattle.guest_dues.specs.declared.due.Due.{Due}
 use Rattle.cli_rows.specs.Rows.{Row, Load, Come, refused_due, goes_on}
 use Rattle.shuf_cli.specs.Answer.{FilesState}
 use Rattle.shuf_cli.specs.Asked.{Came, Stopped, Gave}

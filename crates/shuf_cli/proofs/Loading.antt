@@ -14,7 +14,7 @@ use Rattle.sh_base.specs.Told.{FileAnswer}
 use Rattle.sh_base.specs.Tells.{gave, failed}
 use Rattle.sh_types.specs.declared.runs.NoMemory.{NoMemory}
 use Rattle.cli_words.specs.declared.words.Command.{Command}
-use Rattle.cli_rows.specs.declared.due.Due.{Due}
+use Rattle.guest_dues.specs.declared.due.Due.{Due}
 use Rattle.shuf_cli.specs.Answer.{FilesState, LoadRose, Grows}
 use Rattle.shuf_cli.specs.Asked.{AreAsked, HaveCauses, Loaded, Came, Stopped, Gave}
 use Rattle.cli_rows.specs.Dues.{usage_due, unreadable_due, too_long_due}

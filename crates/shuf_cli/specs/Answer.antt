@@ -8,9 +8,9 @@ use Rattle.sh_base.specs.Faults.{Rose, fault_count}
 use Rattle.sh_base.specs.Held.{FileMap, Stores, OthersStand}
 use Rattle.sh_base.specs.Told.{FileAnswer}
 use Rattle.sh_base.specs.Written.{Gains, GainsFront}
-use Rattle.cli_rows.specs.declared.due.Due.{Due}
+use Rattle.guest_dues.specs.declared.due.Due.{Due}
 use Rattle.shuf_cli.specs.declared.due.Done.{Done}
-use Rattle.cli_rows.specs.declared.due.FileStore.{FileStore}
+use Rattle.guest_dues.specs.declared.due.FileStore.{FileStore}
 use Rattle.shuf_cli.specs.declared.due.Outcome.{Outcome}
 use Rattle.sh_types.specs.declared.runs.NoMemory.{NoMemory}
 use Rattle.cli_rows.specs.Dues.{line_due}

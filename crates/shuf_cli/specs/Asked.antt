@@ -4,7 +4,7 @@ use Rattle.std.specs.Prelude.{◌≡◌, List, ℕ, ◌≤◌, length, [], ◌�
 use Rattle.sh_base.specs.Told.{FileAnswer}
 use Rattle.sh_base.specs.Tells.{gave}
 use Rattle.sh_base.specs.Held.{Loads}
-use Rattle.cli_rows.specs.declared.due.Due.{Due}
+use Rattle.guest_dues.specs.declared.due.Due.{Due}
 use Rattle.shuf_cli.specs.declared.due.FileOr.{FileOr}
 use Rattle.shuf_cli.specs.declared.due.FileOr.TheVariants.{File, Instead}
 use Rattle.shuf_cli.specs.Answer.{FilesState, LoadRose, Grows}

@@ -3,7 +3,7 @@
 use Rattle.std.specs.Prelude.{◌≡◌, ◌≢◌, ℕ, List, Option, Some}
 use Rattle.sh_base.specs.Told.{FileAnswer}
 use Rattle.cli_words.specs.declared.words.Command.{Command}
-use Rattle.cli_rows.specs.declared.due.Due.{Due}
+use Rattle.guest_dues.specs.declared.due.Due.{Due}
 use Rattle.shuf_cli.specs.declared.due.Done.{Done}
 use Rattle.shuf_cli.specs.Answer.{World, Delivered, OutOfMemory}
 use Rattle.shuf_cli.specs.Asked.{Loaded}

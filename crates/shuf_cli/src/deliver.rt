@@ -2,13 +2,14 @@
 //! How what is due is delivered: the store first, then out, then the report.
 ghost use Rattle.std.specs.Prelude.{◌≡◌, ◌≢◌, None, IfOk, OnErr, MatchOption, IsSomeAnd};
 ghost use Rattle.std.specs.Bool.{OnTrue, OnFalse};
-ghost use Rattle.cli_rows.specs.declared.due.Due.{Due};
-ghost use Rattle.cli_rows.specs.declared.due.FileStore.{FileStore};
+ghost use Rattle.guest_dues.specs.declared.due.Due.{Due};
+ghost use Rattle.guest_dues.specs.declared.due.FileStore.{FileStore};
 ghost use Rattle.shuf_cli.specs.Answer.{Took, Refused, Wrote, CameOut, Grows, IsKept, IsStored, IsUnstored, done_by, done_of};
 ghost use Rattle.cli_rows.specs.Lines.{unwritable_line};
 
 use crate::{Done, Outcome};
-use cli_rows::{Due, FileStore, unwritable};
+use cli_rows::unwritable;
+use guest_dues::{Due, FileStore};
 use sh_base::{FileFault, Files, Sink};
 use sh_types::{Bytes, NoMemory};
 use std::alloc::Global;

@@ -1,7 +1,7 @@
 // SPDX-License-Identifier: Apache-2.0
 //! A file or what is due in its place, and the answer.
 
-use cli_rows::Due;
+use guest_dues::Due;
 use sh_types::{Bytes, End};
 use shuf_machine::Machine;
 

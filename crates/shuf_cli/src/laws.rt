@@ -4,7 +4,7 @@ ghost use Rattle.std.specs.Prelude.{◌≡◌, List, ◌∷◌, ℕ, Option, Som
 ghost use Rattle.sh_base.specs.Told.{FileAnswer};
 ghost use Rattle.sh_base.specs.Tells.{gave};
 ghost use Rattle.cli_words.specs.declared.words.Command.{Command};
-ghost use Rattle.cli_rows.specs.declared.due.Due.{Due};
+ghost use Rattle.guest_dues.specs.declared.due.Due.{Due};
 ghost use Rattle.shuf_cli.specs.declared.due.Done.{Done};
 ghost use Rattle.shuf_cli.specs.Answer.{FilesState, World};
 ghost use Rattle.shuf_cli.specs.Asked.{Loaded};

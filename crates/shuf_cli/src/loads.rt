@@ -1,7 +1,7 @@
 // SPDX-License-Identifier: Apache-2.0
 //! The loads of a command.
 ghost use Rattle.std.specs.Prelude.{List, ℕ, IfOk, OnErr};
-ghost use Rattle.cli_rows.specs.declared.due.Due.{Due};
+ghost use Rattle.guest_dues.specs.declared.due.Due.{Due};
 ghost use Rattle.cli_rows.specs.Rows.{Row, Load, with_input};
 ghost use Rattle.shuf_cli.specs.Asked.{Gives, GivesInput, Stopped};
 

@@ -5,16 +5,18 @@ ghost use Rattle.image_rules.specs.Framed.{refusal_of};
 ghost use Rattle.cli_words.specs.Ranges.{IsInRange, HasRanges};
 ghost use Rattle.cli_words.specs.Texts.{texts};
 ghost use Rattle.cli_words.specs.Words.{command_of};
-ghost use Rattle.cli_rows.specs.Judged.{IsImageOf};
-ghost use Rattle.cli_rows.specs.Rows.{goes_on, with_input, guest_due, guest_row, check_row, asm_row, row_of};
+ghost use Rattle.guest_dues.specs.Loaded.{IsImageOf};
+ghost use Rattle.cli_rows.specs.Rows.{goes_on, with_input, guest_row, check_row, asm_row, row_of};
+ghost use Rattle.guest_dues.specs.Guest.{guest_due};
 ghost use Rattle.shuf_cli.specs.Asked.{Came, Stopped};
 
 use crate::FileOr;
 use crate::loads::{load_file, load_input};
 use cli_rows::{
-    Command, Due, FILE_LIMIT, Judged, Opts, Way, WordFault, help, judge, numbers_are_in_range,
-    of_asm, of_check, of_demo, of_guest, read_words, usage,
+    Command, FILE_LIMIT, Judged, Opts, WordFault, help, judge, numbers_are_in_range, of_asm,
+    of_check, of_demo, read_words, usage,
 };
+use guest_dues::{Due, Way, of_guest};
 use sh_base::Files;
 use sh_types::{Bytes, Image, NoMemory};
 use std::alloc::Global;

@@ -2,7 +2,8 @@
 use Rattle.std.proofs.Common.{List, ℕ, subst}
 use Rattle.image_rules.specs.Framed.{refusal_of}
 use Rattle.cli_rows.specs.Limits.{file_limit}
-use Rattle.cli_rows.specs.Rows.{Row, goes_on, guest_due, with_input}
+use Rattle.cli_rows.specs.Rows.{Row, goes_on, with_input}
+use Rattle.guest_dues.specs.Guest.{guest_due}
 use Rattle.shuf_cli.specs.Answer.{FilesState}
 use Rattle.shuf_cli.specs.Asked.{Gave, Gives}
 use Rattle.shuf_cli.proofs.Going.{came_next, stopped_next}

@@ -3,7 +3,8 @@ use Rattle.std.proofs.Common.{refl, subst}
 use Rattle.image_rules.specs.Framed.{refusal_of}
 use Rattle.cli_rows.specs.declared.judging.Judged.TheVariants.{Refused}
 use Rattle.cli_rows.specs.Judged.{IsJudged}
-use Rattle.cli_rows.specs.Rows.{Row, goes_on, guest_due, with_input}
+use Rattle.cli_rows.specs.Rows.{Row, goes_on, with_input}
+use Rattle.guest_dues.specs.Guest.{guest_due}
 use Rattle.shuf_cli.specs.Answer.{FilesState}
 use Rattle.shuf_cli.specs.Asked.{Stopped}
 use Rattle.shuf_cli.proofs.Going.{came_refused}

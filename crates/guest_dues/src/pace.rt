@@ -6,7 +6,7 @@ ghost use Rattle.sh_types.specs.declared.code.Image.{Image};
 ghost use Rattle.cli_words.specs.declared.options.Opts.{Opts};
 ghost use Rattle.cli_words.specs.declared.words.Command.{Command};
 ghost use Rattle.cli_words.specs.Words.{command_of};
-ghost use Rattle.cli_rows.specs.Run.{past_of};
+ghost use Rattle.guest_dues.specs.Run.{past_of};
 
 use cli_words::numbers_are_in_range;
 use pace_law::serial_lists_are_paced;

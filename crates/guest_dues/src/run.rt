@@ -3,8 +3,8 @@
 ghost use Rattle.std.specs.Prelude.{◌≡◌, [], IfOk, OnOk};
 ghost use Rattle.shuf_machine.specs.Past.{guest_of};
 ghost use Rattle.cli_words.specs.Ranges.{IsInRange};
-ghost use Rattle.cli_rows.specs.Judged.{IsImageOf};
-ghost use Rattle.cli_rows.specs.Run.{run_status, form_of, report_of, ran_due, run_by, accepted_due};
+ghost use Rattle.guest_dues.specs.Loaded.{IsImageOf};
+ghost use Rattle.guest_dues.specs.Run.{run_status, form_of, report_of, ran_due, run_by, accepted_due};
 
 use crate::Due;
 use cli_words::Opts;
@@ -67,7 +67,7 @@ fn ran_with(told: Told, machine: Machine, opts: &Opts) -> Due
     }
 }
 
-/// Runs a machine that has done nothing.
+/// Runs a machine that has done nothing, by the options. Err only where memory is refused.
 pub fn make_run(alloc: Global, machine: &mut Machine, opts: &Opts) -> Result<(), NoMemory>
     requires fresh { machine.old.journal ≡ [] }
     requires range { IsInRange opts.now }

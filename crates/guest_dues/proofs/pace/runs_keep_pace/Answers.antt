@@ -1,7 +1,7 @@
 -- SPDX-License-Identifier: Apache-2.0
 use Rattle.cli_words.specs.declared.words.Command.TheVariants.{Run}
-use Rattle.cli_rows.specs.Run.{schedule}
-use Rattle.cli_rows.proofs.pace.runs_keep_pace.Goals as goal
+use Rattle.guest_dues.specs.Run.{schedule}
+use Rattle.guest_dues.proofs.pace.runs_keep_pace.Goals as goal
 
 pub returns-clause-paced : goal.returns-clause-paced
 returns-clause-paced c words name opts is image file input seed =

@@ -12,7 +12,7 @@ use Rattle.period_report.specs.declared.writer.Form.{Form}
 use Rattle.period_report.specs.declared.writer.Form.TheVariants.{Short, Full}
 use Rattle.period_report.specs.Report.{report_text}
 use Rattle.cli_words.specs.declared.options.Opts.{Opts}
-use Rattle.cli_rows.specs.declared.due.Due.{Due}
+use Rattle.guest_dues.specs.declared.due.Due.{Due}
 
 -- how a run goes
 abbrev pub schedule : Opts → Schedule

@@ -10,7 +10,7 @@ ghost use Rattle.plain_memory.specs.Laid.{AreApart};
 ghost use Rattle.thread_step.specs.Numbered.{IsWorded};
 ghost use Rattle.ref_machine.specs.Standing.{run_of};
 ghost use Rattle.cli_words.specs.Ranges.{IsInRange};
-ghost use Rattle.cli_rows.specs.Plain.{count_line, plain_report, stood_due, plain_due};
+ghost use Rattle.guest_dues.specs.Plain.{count_line, plain_report, stood_due, plain_due};
 
 use crate::Due;
 use crate::run::status_of;

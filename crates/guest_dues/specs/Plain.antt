@@ -7,8 +7,8 @@ use Rattle.sh_machines.specs.PlainSerial.{plain_list}
 use Rattle.sh_machines.specs.Unmoved.{Unmoved, unmoved_run}
 use Rattle.period_report.specs.Text.{end_line}
 use Rattle.cli_words.specs.declared.options.Opts.{Opts}
-use Rattle.cli_rows.specs.declared.due.Due.{Due}
-use Rattle.cli_rows.specs.Run.{ended_due}
+use Rattle.guest_dues.specs.declared.due.Due.{Due}
+use Rattle.guest_dues.specs.Run.{ended_due}
 
 -- the harts of its instructions, in their order
 abbrev pub harts_of : Opts → Image → (input : List ℕ) → List ℕ

@@ -2,8 +2,8 @@
 //! By which machine a guest is run.
 ghost use Rattle.std.specs.Prelude.{◌≡◌, IfOk};
 ghost use Rattle.cli_words.specs.Ranges.{IsInRange};
-ghost use Rattle.cli_rows.specs.Judged.{IsImageOf};
-ghost use Rattle.cli_rows.specs.Rows.{guest_due};
+ghost use Rattle.guest_dues.specs.Loaded.{IsImageOf};
+ghost use Rattle.guest_dues.specs.Guest.{guest_due};
 
 use crate::Due;
 use crate::plain::of_plain;
