@@ -6,8 +6,8 @@ ghost use Rattle.sh_machines.specs.Copy.{IsCopyable};
 ghost use Rattle.sh_machines.specs.Fine.{IsFine};
 
 use elf_rules::LoadFault;
-use elf_table::first_guest::first_file;
 use guest_image::load_image;
+use sample_files::first_file;
 use sh_types::{Bytes, FetchLog, Image, NoMemory};
 use shuf_machine::{Machine, MachineNo, Origin};
 use std::alloc::Global;

@@ -1,10 +1,8 @@
 // SPDX-License-Identifier: Apache-2.0
-//! Tests of the parts of the machine: layouts, copies and the cipher of return words.
+//! Tests of the parts of the machine: a copy, and the pages of a guest's memory.
 #![tactic(auto)]
 
 #[cfg(test)]
-mod ciphers;
-pub mod copies;
+mod copies;
 #[cfg(test)]
-mod layouts;
-pub mod pages;
+mod pages;

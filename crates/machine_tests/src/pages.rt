@@ -6,20 +6,22 @@ ghost use Rattle.sh_machines.specs.Fine.{IsFine};
 use elf_rules::LoadFault;
 use guest_image::load_image;
 use guest_mem::{GuestMem, MemFault, View};
+use sample_files::{HOME, Sample, file_of};
 use sh_types::{Image, NoMemory, Steps};
 use std::alloc::Global;
 use std::marker::Brand;
 use std::sync::ledger::{Blank, Ledger};
+use std::test::Fail;
 use std::thread::Threads;
 
 /// The pages of some addresses, a byte behind the data, and a load that passes the end of all addresses.
 #[derive(Clone, Copy, Debug, PartialEq, Eq)]
-pub struct Found {
-    pub data: Option<u32>,
-    pub code: Option<u32>,
-    pub stack: Option<u32>,
-    pub behind: Option<u8>,
-    pub last: Result<u64, MemFault>,
+struct Found {
+    data: Option<u32>,
+    code: Option<u32>,
+    stack: Option<u32>,
+    behind: Option<u8>,
+    last: Result<u64, MemFault>,
 }
 
 fn look<L: Ledger>(memory: &mut GuestMem, blank: Blank) -> Found
@@ -45,7 +47,7 @@ fn look_at(alloc: Global, image: &Image) -> Result<Found, NoMemory>
 }
 
 /// What is found in the memory of a file; None where it is refused.
-pub fn look_in<R: Threads + Sync>(
+fn look_in<R: Threads + Sync>(
     rt: &R,
     alloc: Global,
     file: &[u8],
@@ -57,31 +59,23 @@ pub fn look_in<R: Threads + Sync>(
     }
 }
 
-#[cfg(test)]
-mod tests {
-    use super::{Found, look_in};
-    use guest_mem::MemFault;
-    use sample_files::{HOME, Sample, file_of};
-    use std::test::Fail;
-
-    #[test]
-    fn the_pages(rt: HostRuntime) -> Result<(), Fail> {
-        let sample = Sample {
-            entry: HOME,
-            functions: &[("start", 2)],
-            code: &[0x05d0_0893, 0x0000_0073],
-            data: b"eight by",
-        };
-        let file = file_of(rt.alloc(), &sample)?;
-        let found = look_in(&rt, rt.alloc(), &file)?;
-        let want = Found {
-            data: Some(0x11),
-            code: None,
-            stack: Some(0x3_ffff),
-            behind: None,
-            last: Err(MemFault::Fault),
-        };
-        assert_eq!(rt; found, Some(want));
-        Ok(())
-    }
+#[test]
+fn the_pages(rt: HostRuntime) -> Result<(), Fail> {
+    let sample = Sample {
+        entry: HOME,
+        functions: &[("start", 2)],
+        code: &[0x05d0_0893, 0x0000_0073],
+        data: b"eight by",
+    };
+    let file = file_of(rt.alloc(), &sample)?;
+    let found = look_in(&rt, rt.alloc(), &file)?;
+    let want = Found {
+        data: Some(0x11),
+        code: None,
+        stack: Some(0x3_ffff),
+        behind: None,
+        last: Err(MemFault::Fault),
+    };
+    assert_eq!(rt; found, Some(want));
+    Ok(())
 }

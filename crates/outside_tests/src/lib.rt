@@ -1,9 +1,8 @@
 // SPDX-License-Identifier: Apache-2.0
-//! Tests of files and sinks, those of the system and those in memory.
+//! Tests of files and sinks of the system.
 #![tactic(auto)]
 
 #[cfg(test)]
-mod fakes;
-#[cfg(test)]
 mod files;
-pub mod writers;
+#[cfg(test)]
+mod writers;

@@ -4,6 +4,9 @@
 //! .strtab and .shstrtab, and the section headers at the end.
 #![tactic(auto)]
 
+mod first_guest;
+
+pub use first_guest::first_file;
 use std::alloc::{AllocError, Global};
 
 /// The address of the code.

@@ -1,7 +1,7 @@
 // SPDX-License-Identifier: Apache-2.0
 //! A run of the first guest, which writes `hi` and a line feed and ends with code 0, over an output that fails.
-use crate::calls::run_without_output;
-use elf_table::first_guest::first_file;
+use crate::failing::run_without_output;
+use sample_files::first_file;
 use sh_types::End;
 use std::test::Fail;
 

@@ -1,10 +1,10 @@
 // SPDX-License-Identifier: Apache-2.0
 //! The first guest's file.
-use sample_files::{HOME, Sample, file_of};
+use crate::{HOME, Sample, file_of};
 use std::alloc::{AllocError, Global};
 
 /// `start` stores three bytes, calls `three` and makes the calls 64 and 93; `three` sets a2.
-pub const CODE: [u32; 17] = [
+const CODE: [u32; 17] = [
     0xff01_0113,
     0x0680_0293,
     0x0051_0023,
